@@ -1,17 +1,13 @@
 -- The texts of expressions that are kept while lines are added.
-use Rattle.std.proofs.Common.{◌≡◌, inl, inr, ℕ, ◌+◌, ◌<◌, ◌==◌, Bool, true, false, if◌then◌else◌, List, [], ◌∷◌, ◌++◌, length, fold, get_or, map, take, Option, Some, None, IfSome, Ok, Err, Result, OnOk, OnErr, refl, sym, ap, subst, ◌∙◌, bytes_eq}
+use Rattle.std.proofs.Common.{◌≡◌, ℕ, ◌+◌, ◌<◌, ◌==◌, true, false, if◌then◌else◌, List, [], ◌∷◌, ◌++◌, length, fold, get_or, map, take, Option, Some, None, IfSome, Ok, Err, Result, OnOk, OnErr, refl, sym, ap, subst, ◌∙◌, bytes_eq}
 use Rattle.std.specs.declared.vec.Vec.{Vec}
 use Rattle.std.specs.declared.alloc.Global.{Global}
 use Rattle.std.specs.BTreeMap.{insert_entry}
-use Rattle.std.specs.declared.cmp.Ordering.TheVariants.{Less, Equal, Greater}
 use Rattle.std.specs.Option.{option_map}
-use Rattle.std.specs.Ordering.{is_lt, match_ordering}
 use Rattle.std.proofs.lemmas.Bool.{false≢true}
-use Rattle.std.proofs.lemmas.List.{map-append, take_all, take_more}
+use Rattle.std.proofs.lemmas.List.{map-append, take_more}
 use Rattle.std.proofs.lemmas.Slice.Eq.{bytes_eq-Decides}
 use Rattle.annex_base.specs.ByteOrder.{path_cmp, text_cmp}
-use Rattle.annex_base.specs.Lists.{Each, Member}
-use Rattle.annex_base.specs.Settings.{Settings}
 use Rattle.annex_base.proofs.Conditions.{by_test, bytes_eq-true}
 use Rattle.annex_base.proofs.Lists.{Each-member, Each-push, Each-weaker, Member-map}
 use Rattle.annex_base.proofs.Rows.{shown-insert_entry}
@@ -24,19 +20,18 @@ use Rattle.log_lines.specs.declared.entry.Value.{Value}
 use Rattle.log_lines.specs.declared.entry.Value.TheVariants as values
 use Rattle.log_lines.specs.Files.{file_name}
 use Rattle.log_lines.specs.Index.{Index}
-use Rattle.log_lines.specs.Newest.{entry_at, entry_cmp, newer, same_topic, topic_cmp, with_entry, with_entry_if}
+use Rattle.log_lines.specs.Newest.{entry_at, same_topic, with_entry_if}
 use Rattle.log_lines.specs.Reading.{entry_of}
 use Rattle.wanted_expr.specs.Formula.{Formula}
-use Rattle.wanted_expr.specs.Wanted.{formula_read, group_formula, is_text, standard_text, without_groupwanted}
+use Rattle.wanted_expr.specs.Wanted.{formula_read, group_formula, standard_text, without_groupwanted}
 use Rattle.trust_groups.specs.Adding.{lines_and}
 use Rattle.trust_groups.specs.Exprs.{AreReadOnce, AreRight, Exprs, HasExpr, HaveAllExprs, HaveExprs, HaveExprsOf, HaveExprsSaid, KeepExprs, expr_at, exprs_shown, has_exprs, texts_in, texts_said}
-use Rattle.trust_groups.specs.Kept.{groups_among, text_among}
 use Rattle.trust_groups.specs.Reads.{HaveReadLines, Indices, kind_at, lines_with, view_of}
 use Rattle.trust_groups.specs.Settings.{Lines, groups_in, text_in, value_in}
 use Rattle.trust_groups.specs.View.{IsGroupOfSome, entries_of, settings_of, text_read}
 use Rattle.trust_groups.proofs.IndexLemmas.{put_other, put_own}
 use Rattle.trust_groups.proofs.KeptLemmas.{file_read}
-use Rattle.trust_groups.proofs.LineLemmas.{lines_both, lines_if, one_line}
+use Rattle.trust_groups.proofs.LineLemmas.{lines_both, lines_if, newest_hold, one_line}
 use Rattle.trust_groups.proofs.ReadsLemmas.{reads_none}
 
 -- ---- a text is put in with what it says
@@ -95,31 +90,6 @@ group_reads (b ∷ bs) = refl
 
 -- ---- the entries that lines leave
 
-newer_have : (exprs : Exprs) (x e : Entry) → HaveExprs exprs (texts_in x.value) → HaveExprs exprs (texts_in e.value) → HaveExprs exprs (texts_in (newer x e).value)
-newer_have exprs x e was have = elim (is_lt (entry_cmp x e)) as (λ b. HaveExprs exprs (texts_in (if b then e else x).value)) [
-  | true ↦ have
-  | false ↦ was
-]
-
-with_one : (exprs : Exprs) (es : List Entry) (e : Entry) → HaveExprsOf exprs es → HaveExprs exprs (texts_in e.value) → HaveExprsOf exprs (with_entry es e)
-with_one exprs [] e have has = (has, tt)
-with_one exprs (x ∷ xs) e have has =
-    elim (topic_cmp e.topic x.topic) as (λ o. HaveExprsOf exprs (match_ordering o (e ∷ x ∷ xs) (newer x e ∷ xs) (x ∷ with_entry xs e))) [
-      | Less ↦ (has, have)
-      | Equal ↦ (newer_have exprs x e have.0 has, have.1)
-      | Greater ↦ (have.0, with_one exprs xs e have.1 has)
-    ]
-
-with_line : (exprs : Exprs) (es : List Entry) (o : Option Entry) → HaveExprsOf exprs es → HaveExprs exprs (texts_said o) → HaveExprsOf exprs (with_entry_if es o)
-with_line exprs es None have has = have
-with_line exprs es (Some e) have has = with_one exprs es e have has
-
-newest_have : (exprs : Exprs) (kind : LogKind) (lines : List (List ℕ)) (es : List Entry) → HaveExprsOf exprs es → HaveExprsSaid exprs kind lines
-    → HaveExprsOf exprs (fold (λ so_far line. with_entry_if so_far (entry_of kind line)) es lines)
-newest_have exprs kind [] es have said = have
-newest_have exprs kind (line ∷ lines) es have said =
-    newest_have exprs kind lines (with_entry_if es (entry_of kind line)) (with_line exprs es (entry_of kind line) have (said line (inl refl))) (λ other among. said other (inr among))
-
 at_topic : (exprs : Exprs) (es : List Entry) (topic : Topic) → HaveExprsOf exprs es → HaveExprs exprs (texts_said (entry_at es topic))
 at_topic exprs [] topic have = tt
 at_topic exprs (e ∷ es) topic have = elim (same_topic topic e.topic) as (λ b. HaveExprs exprs (texts_said (if b then Some e else entry_at es topic))) [
@@ -151,7 +121,7 @@ kept_at exprs indices kind topic has named kept =
     at_topic exprs (entries_of indices kind) topic
     (subst (HaveExprsOf exprs)
     (sym (file_read indices kept.lines kept.reads name ∙ ap (λ (k : LogKind). fold (λ so_far line. with_entry_if so_far (entry_of k line)) [] (kept.lines name)) named))
-    (newest_have exprs kind (kept.lines name) [] tt (kept.have kind has)))
+    (newest_hold (λ (o : Option Entry). HaveExprs exprs (texts_said o)) kind (kept.lines name) [] tt (kept.have kind has)))
 
 pub kept_preferred : (exprs : Exprs) (indices : Indices) (repo : List ℕ) → AreReadOnce exprs indices → HasExpr exprs ((settings_of indices).preferred repo)
 kept_preferred exprs indices repo kept = text_has exprs (entry_at (entries_of indices kinds.Preferred) (topics.Repo repo)) (kept_at exprs indices kinds.Preferred (topics.Repo repo) refl refl kept)

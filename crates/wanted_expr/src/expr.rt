@@ -5,7 +5,7 @@ ghost use Rattle.wanted_expr.specs.Expressions.{IsCause, IsExpression, IsFirstFa
 ghost use Rattle.wanted_expr.specs.Finding.{is_memory};
 ghost use Rattle.wanted_expr.specs.Formula.{Atom, Formula};
 ghost use Rattle.wanted_expr.specs.Truth.{has_groupwanted, holds};
-ghost use Rattle.wanted_expr.specs.Wanted.{formula_read, group_formula};
+ghost use Rattle.wanted_expr.specs.Wanted.{formula_read};
 ghost use Rattle.wanted_expr.specs.declared.data.Word.TheVariants as words;
 
 use crate::data::{Facts, Tree, Word};
@@ -81,17 +81,6 @@ impl Expr {
             Ok(tree) => Ok(Expr { tree }),
             Err(fault) => instead_of(fault),
         }
-    }
-
-    /// What the text of a group's expression says: one with `groupwanted` reads as `present` too (own).
-    pub fn of_group_text(alloc: Global, text: &[u8]) -> Result<Expr, NoMemory>
-        ensures { IfOk result (λ e. e ≡ group_formula text.now) }
-    {
-        let expr = Expr::of_text(alloc, text)?;
-        if expr.has_groupwanted() {
-            return Ok(Expr::present());
-        }
-        Ok(expr)
     }
 
     /// Whether the expression holds. It takes no memory.

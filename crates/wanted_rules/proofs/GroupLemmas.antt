@@ -1,5 +1,5 @@
 -- The groups of a repository, each once, and the one expression among theirs.
-use Rattle.std.proofs.Common.{◌≡◌, ℕ, ◌+◌, ◌<◌, ◌==◌, Bool, true, false, not, ◌||◌, List, [], ◌∷◌, ◌++◌, length, filter, get_or, map, take, Option, Some, None, Bor, inl, inr, option_to_list, refl, sym, ap, subst, ◌∙◌, arith, bytes_eq}
+use Rattle.std.proofs.Common.{◌≡◌, ℕ, ◌+◌, ◌<◌, ◌==◌, Bool, true, false, not, ◌||◌, List, [], ◌∷◌, ◌++◌, length, filter, get_or, map, take, Option, None, Bor, inl, inr, option_to_list, refl, sym, ap, subst, ◌∙◌, arith, bytes_eq}
 use Rattle.std.specs.List.{list_any}
 use Rattle.std.proofs.lemmas.Bool.{eqb-true, false≢true}
 use Rattle.std.proofs.lemmas.List.{append-nil, map-append, take_more}
@@ -89,19 +89,6 @@ some_is {X} xs e none = false≢true (sym e ∙ ap (λ (l : List X). length l ==
 
 -- ---- expressions
 
-abbrev shown : List (Bor Formula) → List Formula
-shown exprs = map (λ e. e.now) exprs
-
-pub expr_put : (exprs new : List (Bor Formula)) (expr : Bor Formula) → new ≡ exprs ++ expr ∷ [] → map (λ e. e.now) new ≡ map (λ e. e.now) exprs ++ expr.now ∷ []
-expr_put exprs new expr put = ap shown put ∙ map-append (λ (e : Bor Formula). e.now) exprs (expr ∷ [])
-
-pub only_one : (exprs : List (Bor Formula)) (expr : Bor Formula) (rest : List (Bor Formula)) → exprs ≡ expr ∷ rest → (length rest == 0) ≡ true → Some expr.now ≡ only_formula (map (λ e. e.now) exprs)
-only_one exprs expr rest is none = sym (ap (λ (es : List (Bor Formula)). only_formula (shown es)) (is ∙ ap (λ (r : List (Bor Formula)). expr ∷ r) (empty_is rest none)))
-
-pub only_several : (exprs : List (Bor Formula)) (expr : Bor Formula) (rest : List (Bor Formula)) → exprs ≡ expr ∷ rest → (length rest == 0) ≡ false → None ≡ only_formula (map (λ e. e.now) exprs)
-only_several exprs expr [] is some = absurd (some_is {X = Bor Formula} [] some refl)
-only_several exprs expr (other ∷ rest) is some = sym (ap (λ (es : List (Bor Formula)). only_formula (shown es)) is)
-
 pub only_none : (exprs : List (Bor Formula)) → length exprs ≡ 0 → None ≡ only_formula (map (λ e. e.now) exprs)
 only_none [] none = refl
 only_none (expr ∷ exprs) none = absurd (omega (arith, none))
@@ -124,19 +111,19 @@ only_read read texts formulas are = ap only_formula are ∙ only_says read (filt
 pub text_of_groups : (f : List ℕ → List ℕ) (items : List (Bor (List ℕ))) (groups : List (List ℕ)) → map (λ g. g.now) items ≡ each_once groups → only_text (filter is_text (map (λ g. f g.now) items)) ≡ group_text f groups
 text_of_groups f items groups once = ap (λ (ts : List (List ℕ)). only_text (filter is_text ts)) (sym (map_map f (λ (g : Bor (List ℕ)). g.now) items) ∙ ap (map f) once)
 
-next_text : {X : Type 0} (f : X → List ℕ) (xs : List X) (i : ℕ) (x : X) (texts : List (List ℕ)) → i < length xs → x ≡ get_or xs i x → texts ≡ filter is_text (map f (take i xs)) → texts ++ filter is_text (f x ∷ []) ≡ filter is_text (map f (take (i + 1) xs))
-next_text {X} f xs i x texts within is so_far =
-    ap (λ (ts : List (List ℕ)). ts ++ filter is_text (f x ∷ [])) so_far
-    ∙ sym (filter-append is_text (map f (take i xs)) (f x ∷ []))
-    ∙ ap (filter is_text) (sym (map-append f (take i xs) (x ∷ [])) ∙ ap (map f) (ap (λ (y : X). take i xs ++ y ∷ []) is ∙ sym (take_more xs i x within)))
+next_text : {X : Type 0} (f : X → List ℕ) (xs : List X) (i : ℕ) (d : X) → i < length xs → filter is_text (map f (take i xs)) ++ filter is_text (f (get_or xs i d) ∷ []) ≡ filter is_text (map f (take (i + 1) xs))
+next_text f xs i d within =
+    sym (filter-append is_text (map f (take i xs)) (f (get_or xs i d) ∷ []))
+    ∙ ap (filter is_text) (sym (map-append f (take i xs) (get_or xs i d ∷ [])) ∙ ap (map f) (sym (take_more xs i d within)))
 
 -- one expression more
-pub next_expr : {X : Type 0} (read : List ℕ → Formula) (f : X → List ℕ) (xs : List X) (i : ℕ) (x : X) (found : List Formula) (o : Option Formula) → i < length xs → x ≡ get_or xs i x → o ≡ text_read read (f x)
+pub next_expr : {X : Type 0} (read : List ℕ → Formula) (f : X → List ℕ) (xs : List X) (i : ℕ) (d : X) (found : List Formula) (o : Option Formula) → i < length xs → o ≡ text_read read (f (get_or xs i d))
     → found ≡ map read (filter is_text (map f (take i xs))) → found ++ option_to_list o ≡ map read (filter is_text (map f (take (i + 1) xs)))
-next_expr read f xs i x found o within is says so_far =
+next_expr read f xs i d found o within says so_far =
     let texts = filter is_text (map f (take i xs)) in
+    let text = f (get_or xs i d) in
     ap (λ (fs : List Formula). fs ++ option_to_list o) so_far
     ∙ ap (λ (p : Option Formula). map read texts ++ option_to_list p) says
-    ∙ ap (λ (fs : List Formula). map read texts ++ fs) (listed read (f x))
-    ∙ sym (map-append read texts (filter is_text (f x ∷ [])))
-    ∙ ap (map read) (next_text f xs i x texts within is refl)
+    ∙ ap (λ (fs : List Formula). map read texts ++ fs) (listed read text)
+    ∙ sym (map-append read texts (filter is_text (text ∷ [])))
+    ∙ ap (map read) (next_text f xs i d within)

@@ -6,8 +6,8 @@ use Rattle.wanted_expr.specs.Wanted.{formula_read, group_formula, standard_text}
 use Rattle.wanted_rules.proofs.GroupLemmas.{of_some, text_of_groups}
 use Rattle.wanted_rules.proofs.group_exprs.GroupExprs.read.Goals as goal
 
-pub standard_expr-standard-requires : goal.standard_expr-standard-requires
-standard_expr-standard-requires c =
+pub standard_expr-requires : goal.standard_expr-requires
+standard_expr-requires c =
     let once = ap (map (λ (g : Bor (List ℕ)). g.now)) c.as_slice-groups.ensures.value ∙ c.in_ok-once.ensures ∙ ap each_once c.groups.ensures in
     of_some (settings_of c.args.settings.now) c.args.repo c.as_slice-groups.result.now once
 
