@@ -18,7 +18,7 @@ const KEYS_A_PART: usize = 64;
 
 /// The plan that `plan` makes, for which the keys are cut into parts that `rayon` hands to threads; it is the same for every
 /// number of threads (own). `here` is the repository's place among the repositories. The expressions of each repository are
-/// read once, before; the cost of all parts together grows with the number of keys times that of repositories. The only
+/// found once, before; the cost of all parts together grows with the number of keys times that of repositories. The only
 /// error is want of memory.
 pub fn par_plan<R: Threads + Sync>(
     rt: &R,

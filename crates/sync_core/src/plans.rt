@@ -16,7 +16,7 @@ use wanted_rules::{Action, Wishes};
 
 /// What a repository is to do, by these settings and for the keys of this tree, so that it and its peers have the contents
 /// that they want, and no others (own). `here` is its place among the repositories. The expressions of each repository are
-/// read once; the cost grows with the number of keys times that of repositories.
+/// found once; the cost grows with the number of keys times that of repositories.
 pub fn plan(
     alloc: Global,
     settings: &Settings,
@@ -56,7 +56,7 @@ pub(crate) fn plan_keys<'a>(
     Ok(actions)
 }
 
-/// Reads the expressions of each of the repositories.
+/// Finds the expressions of each of the repositories.
 pub(crate) fn read_wishes<'a>(
     alloc: Global,
     settings: &'a Settings,
