@@ -40,6 +40,8 @@ use Rattle.node_sessions.specs.Serving.{closing_made, sessions_after}
 use Rattle.node_sessions.specs.Sessions.{AreSessions, OwnAll, connection_of}
 use Rattle.running_jobs.specs.Places.{IsPlace}
 use Rattle.running_jobs.specs.Running.{AreAllFed as JobsFed, AreWorks, Jobs, fills_at}
+use Rattle.node_crash.proofs.Ends.{same_or_other}
+use Rattle.node_crash.proofs.Jobs.{no_jobs}
 use Rattle.node_parts.specs.declared.done.Done.{Done}
 use Rattle.node_parts.specs.Closing.{Shuts}
 use Rattle.node_parts.specs.Parts.{AreAllFed, AreParts, HasLockRooms, PartsView}
@@ -48,10 +50,9 @@ use Rattle.node_parts.specs.Sending.{PostsOnly}
 use Rattle.node_parts.specs.Sound.{AreSound}
 use Rattle.node_parts.specs.Steps.{Leaves, close_made, made_of}
 use Rattle.node_parts.proofs.Going.{EndsGo, SessionsStay}
-use Rattle.node_parts.proofs.Posting.{same_or_other}
 use Rattle.node_parts.proofs.Rooms.{none_at, rooms_closed, untouched}
 use Rattle.node_parts.proofs.Served.{JobsStay}
-use Rattle.node_parts.proofs.Sounding.{no_jobs, sound_after, there_still}
+use Rattle.node_parts.proofs.Sounding.{sound_after, there_still}
 
 -- ---- each other repository has four sessions
 

@@ -1,5 +1,5 @@
 -- The keys that sessions and gets fill, and what these have taken of their parts.
-use Rattle.std.proofs.Common.{◌≡◌, ℕ, zero, suc, Bool, true, false, ◌&&◌, List, [], ◌∷◌, Option, Some, None, is_some, refl, sym, ap, subst, ◌∙◌}
+use Rattle.std.proofs.Common.{◌≡◌, ℕ, zero, suc, Bool, true, false, ◌&&◌, List, [], ◌∷◌, Some, is_some, refl, sym, ap, subst, ◌∙◌}
 use Rattle.std.specs.Prelude.{◌||◌, IfSome, bytes_eq, slice_get}
 use Rattle.std.proofs.lemmas.Bool.{true≢false}
 use Rattle.annex_base.proofs.Conditions.{bytes_eq-refl}
@@ -14,7 +14,6 @@ use Rattle.node_sessions.specs.Sessions.{AreFilled, AreAllFed as SessionsFed, fi
 use Rattle.get_phases.specs.Gets.{fill_in, IsFed as IsFedGet}
 use Rattle.get_phases.specs.declared.getting.Phase.{Phase as GetPhase}
 use Rattle.get_phases.specs.declared.getting.Phase.TheVariants as phases
-use Rattle.running_jobs.specs.TransferJob.{TransferJob}
 use Rattle.running_jobs.specs.Worker.{Worker}
 use Rattle.running_jobs.specs.Worker.TheVariants as workers
 use Rattle.running_jobs.specs.Workers.{HasFill, IsFed, work_of}
@@ -23,6 +22,7 @@ use Rattle.running_jobs.specs.Task.{Task}
 use Rattle.running_jobs.specs.Task.TheVariants as tasks
 use Rattle.running_jobs.specs.Tasks.{IsFedTask, OwnsOf, work_now}
 use Rattle.running_jobs.specs.Running.{AreFilled as JobsFilled, IsOwn, Jobs, OwnAll as JobsOwn, AreAllFed as JobsFed, fills_at}
+use Rattle.node_crash.proofs.Jobs.{fills_of_jobs}
 use Rattle.node_parts.specs.Parts.{AreAllFed, PartsView}
 use Rattle.node_parts.specs.Sound.{AreSound}
 
@@ -69,14 +69,11 @@ module _ (rows : Rows) (xs : List Session) (ts : List Task) where
   }
 
   module _ (filled : AreFilled rows xs (fills_at ts)) where
-    -- so it fills the keys of each
-    pub fills_of_jobs : (key : List ℕ) → fills_at ts key ≡ true → is_filling rows key ≡ true
-    fills_of_jobs key is = filled.filled key ∙ (ap (λ (b : Bool). fills_in xs key || b) is ∙ or_true (fills_in xs key))
-
+    -- so it fills the keys of sessions
     pub fills_of_sessions : (key : List ℕ) → fills_in xs key ≡ true → is_filling rows key ≡ true
     fills_of_sessions key is = filled.filled key ∙ ap (λ (b : Bool). b || fills_at ts key) is
 
-    -- and none of the one is the other's
+    -- and none of these is a job's, nor the other way round
     pub of_no_session : (key : List ℕ) → fills_at ts key ≡ true → fills_in xs key ≡ false
     of_no_session key is = not_first (fills_in xs key) (fills_at ts key) (filled.apart key) is
 
@@ -88,22 +85,6 @@ pub session_among : (key : List ℕ) (xs : List Session) (i : ℕ) (x : Session)
 session_among key [] i x at is = absurd cc
 session_among key (y ∷ ys) zero x at is = let same : y ≡ x = cc in ap (λ (b : Bool). b || fills_in ys key) (ap (session_fills key) same ∙ is)
 session_among key (y ∷ ys) (suc i) x at is = ap (λ (b : Bool). session_fills key y || b) (session_among key ys i x at is) ∙ or_true (session_fills key y)
-
--- ---- the right to fill that a job has
-
-keeps_right : (was now : Rows) (own : List ℕ) (o : Option (List ℕ)) → ((key : List ℕ) → (is_some o && bytes_eq own key) ≡ true → is_filling now key ≡ true)
-    → IfSome o (λ (key : List ℕ). (key ≡ own) × (is_filling was key ≡ true)) → IfSome o (λ (key : List ℕ). (key ≡ own) × (is_filling now key ≡ true))
-keeps_right was now own None fills has = tt
-keeps_right was now own (Some key) fills has = (has.0, fills key (ap (bytes_eq own) has.0 ∙ bytes_eq-refl own))
-
--- while the table fills its key
-worker_keeps : (was now : Rows) (v : Worker) (paths : List (List ℕ)) → ((key : List ℕ) → fills_key (work_of (record { worker = v; paths = paths })) key ≡ true → is_filling now key ≡ true)
-    → HasFill was (record { worker = v; paths = paths }) → HasFill now (record { worker = v; paths = paths })
-worker_keeps was now (workers.Gets g) paths fills has = keeps_right was now g.job.key (fill_in g.phase) fills has
-worker_keeps was now (workers.Puts p) paths fills has = tt
-
-pub keeps_fill : (was now : Rows) (w : TransferJob) → ((key : List ℕ) → fills_key (work_of w) key ≡ true → is_filling now key ≡ true) → HasFill was w → HasFill now w
-keeps_fill was now w fills has = worker_keeps was now w.worker w.paths fills has
 
 -- ---- what a get has taken
 

@@ -1,14 +1,13 @@
 -- The frames of a step are sent where they have their places.
-use Rattle.std.proofs.Common.{◌≡◌, ◌≢◌, ◌⊎◌, inl, inr, ℕ, ◌<◌, ◌*◌, ◌+◌, Bool, true, false, ◌&&◌, if◌then◌else◌, List, [], ◌∷◌, ◌++◌, Option, Some, None, is_some, length, refl, sym, ap, subst, ◌∙◌, arith, append-nil, append_assoc}
-use Rattle.std.specs.Prelude.{◌==◌, ◌^◌, ◌-◌, flat_map, nat_le, nat_lt, slice_get}
+use Rattle.std.proofs.Common.{◌≡◌, ◌≢◌, inl, inr, ℕ, ◌<◌, ◌*◌, ◌+◌, Bool, true, false, ◌&&◌, if◌then◌else◌, List, [], ◌∷◌, ◌++◌, Option, Some, None, is_some, length, refl, sym, ap, subst, ◌∙◌, arith, append-nil, append_assoc}
+use Rattle.std.specs.Prelude.{◌^◌, ◌-◌, flat_map, nat_le, nat_lt, slice_get}
 use Rattle.std.specs.Option.{ForSome, option_to_list}
-use Rattle.std.proofs.lemmas.Bool.{and_parts, cases_Bool, eqb-true, true≢false}
+use Rattle.std.proofs.lemmas.Bool.{and_parts, true≢false}
 use Rattle.std.proofs.lemmas.List.Elements.{filter-append}
 use Rattle.std.proofs.lemmas.Option.{slice_get_within}
 use Rattle.annex_base.specs.declared.kinds.EntryStamp.{EntryStamp}
-use Rattle.annex_base.proofs.Conditions.{eqb_refl, same_bool_is, same_bool_refl}
+use Rattle.annex_base.proofs.Conditions.{eqb_refl, same_bool_refl}
 use Rattle.annex_base.proofs.Lists.{append_nil_left, cons_first, cons_nil}
-use Rattle.annex_base.specs.Bools.{same_bool}
 use Rattle.run_data.specs.declared.entry.FrameText.{FrameText}
 use Rattle.run_data.specs.declared.entry.FrameText.TheVariants as texts
 use Rattle.run_data.specs.declared.entry.FrameView.{FrameView}
@@ -28,6 +27,7 @@ use Rattle.drop_phases.specs.Working.{end_in, texts_of}
 use Rattle.transfer_turns.specs.declared.parcels.Parcel.{Parcel as TransferParcel}
 use Rattle.transfer_turns.specs.Parcels.{text_in}
 use Rattle.job_frames.specs.Sending.{MaySend, TakesNoOpening, end_of, stood_at}
+use Rattle.node_crash.proofs.Ends.{same_or_other}
 use Rattle.node_parts.specs.Sending.{ArePlaced, IsFrame, IsPlaced, IsPosted, frames_of_drop, frames_of_transfer}
 
 -- what a law says of ends with room, and of open ones
@@ -178,21 +178,6 @@ room_after_take was now a f other room may state = go (link_at was a) (link_at n
         let numbers = and_parts (nat_lt (v.sent + 1) (2 ^ 62)) (nat_lt v.epoch (2 ^ 32 - 1)) (and_parts (nat_le 2 (free v)) (nat_lt (v.sent + 1) (2 ^ 62) && nat_lt v.epoch (2 ^ 32 - 1)) had).1 in
         let epoch : w.epoch ≡ v.epoch = ap (λ (c : End). c.epoch) is ∙ same_epoch (stands v) f.epoch f.body other in
         all_three (nat_le 2 (free w)) (nat_lt (w.sent + 1) (2 ^ 62)) (nat_lt w.epoch (2 ^ 32 - 1)) places.0 places.1 (ap (λ (n : ℕ). nat_lt n (2 ^ 32 - 1)) epoch ∙ numbers.1)
-
-abbrev name_test : EndName → EndName → Bool
-name_test p q = (p.peer == q.peer) && ((p.slot == q.slot) && same_bool p.client q.client)
-
-pub same_or_other : (p q : EndName) → (p ≡ q) ⊎ (p ≢ q)
-same_or_other p q = elim (cases_Bool (name_test p q)) [
-  | inl is ↦
-      let first = and_parts (p.peer == q.peer) ((p.slot == q.slot) && same_bool p.client q.client) is in
-      let next = and_parts (p.slot == q.slot) (same_bool p.client q.client) first.1 in
-      let peer = eqb-true p.peer q.peer first.0 in
-      let slot = eqb-true p.slot q.slot next.0 in
-      let client = same_bool_is p.client q.client next.1 in
-      inl (λ i. record { peer = peer i; slot = slot i; client = client i })
-  | inr other ↦ inr (λ same. true≢false (sym (all_three (p.peer == p.peer) (p.slot == p.slot) (same_bool p.client p.client) (eqb_refl p.peer) (eqb_refl p.slot) (same_bool_refl p.client)) ∙ (ap (name_test p) same ∙ other)))
-]
 
 pub taken_posted : (was now : List EndView) (a : EndName) (f : FrameView) → room_at was a ≡ true → may_send now a (texts.Line []) ≡ true → end_at now a ≡ end_took (end_at was a) (Some f) → ((b : EndName) → b ≢ a → link_at now b ≡ link_at was b)
     → AreAfter was now (Some f) [] → IsPosted was (Some f) now []

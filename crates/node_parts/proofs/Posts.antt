@@ -27,11 +27,12 @@ use Rattle.node_ends.specs.Sent.{link_sends, text_of_sending}
 use Rattle.node_sessions.specs.Pieces.{IsNoPiece}
 use Rattle.node_sessions.specs.Serving.{IsTalk}
 use Rattle.node_sessions.specs.Words.{word_to}
+use Rattle.node_crash.proofs.Ends.{same_or_other}
 use Rattle.node_parts.specs.declared.done.Done.{Done}
 use Rattle.node_parts.specs.declared.moment.Moment.{Moment}
 use Rattle.node_parts.specs.Posting.{after_step, stamp_of, taken_off, word_with}
 use Rattle.node_parts.specs.Sending.{Answers, AreAmong, PostsNothing, PostsOn, PostsOnly, PostsWith}
-use Rattle.node_parts.proofs.Posting.{frame_end, same_or_other, sends_its}
+use Rattle.node_parts.proofs.Posting.{frame_end, sends_its}
 
 -- ---- the word
 

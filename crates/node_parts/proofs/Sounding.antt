@@ -3,57 +3,23 @@ use Rattle.std.proofs.Common.{◌≡◌, ◌≢◌, ℕ, ◌<◌, ◌*◌, Bool,
 use Rattle.std.specs.Prelude.{OnErr, OnOk, is_some, nat_lt, not, ◌==◌, if◌then◌else◌, slice_get}
 use Rattle.std.proofs.lemmas.Bool.{true≢false}
 use Rattle.std.proofs.lemmas.Bool.Decides.{nat_tests}
-use Rattle.annex_base.proofs.Lists.{Each-from_members, Each-member, list_any_member}
-use Rattle.run_data.specs.declared.entry.By.TheVariants.{Job as by_job}
 use Rattle.run_data.specs.declared.job.Job.{Job}
 use Rattle.link_ring.specs.Ends.{EndView}
 use Rattle.link_ring.specs.Places.{end_place}
-use Rattle.content_lock.specs.Rows.{Rows, bar_at, is_filling}
-use Rattle.content_lock.specs.Tokens.{Owns, ShareView}
+use Rattle.content_lock.specs.Rows.{Rows, bar_at}
 use Rattle.p2p_server.specs.declared.session.Session.{Session}
 use Rattle.node_model.specs.Ends.{EndName}
-use Rattle.node_model.specs.Rows.{option_is}
 use Rattle.node_ends.specs.Ends.{link_at}
-use Rattle.node_ends.specs.Joined.{AreCarried, AreJoined, BothPaired, StayPaired, StaysSo, end_with, link_carried}
-use Rattle.node_sessions.specs.Sessions.{AreFilled, HaveEnds, IsOther, OwnAll, end_of, fills_in}
-use Rattle.drop_phases.specs.declared.phase.Token.{Token}
-use Rattle.drop_phases.specs.declared.phase.Token.TheVariants as tokens
-use Rattle.drop_phases.specs.Doing.{HasToken, share_in}
+use Rattle.node_ends.specs.Joined.{AreCarried, AreJoined, BothPaired, StayPaired, end_with, link_carried}
+use Rattle.node_sessions.specs.Sessions.{AreFilled, HaveEnds, OwnAll, end_of, fills_in}
 use Rattle.running_jobs.specs.Places.{PlaceView}
-use Rattle.running_jobs.specs.Workers.{work_of}
-use Rattle.transfer_turns.specs.Steps.{fills_key}
-use Rattle.running_jobs.specs.Task.{Task}
-use Rattle.running_jobs.specs.Task.TheVariants as tasks
-use Rattle.running_jobs.specs.Tasks.{work_now}
 use Rattle.running_jobs.specs.Beginning.{Begins}
-use Rattle.running_jobs.specs.Running.{AreFilled as JobsFilled, IsOwn, Jobs, OwnAll as JobsOwn, fills_at}
+use Rattle.running_jobs.specs.Running.{AreFilled as JobsFilled, Jobs, OwnAll as JobsOwn, fills_at}
+use Rattle.node_crash.proofs.Ends.{stays_there}
+use Rattle.node_crash.proofs.Jobs.{LeavesJobs, fills_of_jobs, jobs_keep}
 use Rattle.node_parts.specs.Parts.{PartsView}
 use Rattle.node_parts.specs.Sound.{AreSound}
-use Rattle.node_parts.proofs.Filling.{fills_of_jobs, for_jobs, for_sessions, keeps_fill}
-
--- ---- what is paired
-
-pub stays_same : (o : Option EndView) → StaysSo o o
-stays_same None = tt
-stays_same (Some v) = λ other pair. pair
-
-stays_so_on : (a b c : Option EndView) → StaysSo a b → StaysSo b c → StaysSo a c
-stays_so_on None None c p q = q
-stays_so_on None (Some y) c p q = absurd p
-stays_so_on (Some x) None c p q = absurd p
-stays_so_on (Some x) (Some y) None p q = q
-stays_so_on (Some x) (Some y) (Some z) p q = λ other pair. q other (p other pair)
-
-pub stay_same : (links : List EndView) → StayPaired links links
-stay_same links a = stays_same (link_at links a)
-
-pub stay_on : (was mid now : List EndView) → StayPaired was mid → StayPaired mid now → StayPaired was now
-stay_on was mid now p q a = stays_so_on (link_at was a) (link_at mid a) (link_at now a) (p a) (q a)
-
-pub stays_there : (a b : Option EndView) → StaysSo a b → is_some a ≡ true → is_some b ≡ true
-stays_there None b p is = absurd (true≢false (sym is))
-stays_there (Some x) None p is = absurd p
-stays_there (Some x) (Some y) p is = refl
+use Rattle.node_parts.proofs.Filling.{for_jobs, for_sessions}
 
 -- ---- the ends of the sessions
 
@@ -119,41 +85,6 @@ both_other (Some a) (Some b) pair = record { first = pair.second; second = pair.
 pub joined_other : (a b : ℕ) (xs ys : List EndView) → AreJoined a b xs ys → AreJoined b a ys xs
 joined_other a b xs ys joined slot true low = both_other (link_at xs (end_with b slot false)) (link_at ys (end_with a slot true)) (joined slot false low)
 joined_other a b xs ys joined slot false low = both_other (link_at xs (end_with b slot true)) (link_at ys (end_with a slot false)) (joined slot true low)
-
--- ---- the tokens of the jobs
-
--- no session acts for a job
-pub no_jobs : (xs : List Session) (job : ℕ) → IsOther (by_job job) xs
-no_jobs xs job = λ i x at. refl
-
--- what jobs own stays theirs
-abbrev pub LeavesJobs : Rows → Rows → Type 0
-LeavesJobs was now = (job : ℕ) (share : Option ShareView) → Owns (by_job job) share was.holds → Owns (by_job job) share now.holds
-
-keeps_token : (was now : Rows) → ((key : List ℕ) → bar_at now key ≡ bar_at was key) → LeavesJobs was now → (job : ℕ) (key : List ℕ) (t : Token) → HasToken job key t was → HasToken job key t now
-keeps_token was now bars others job key t has = record {
-  of_key = has.of_key;
-  of_job = has.of_job;
-  bars = λ k. ap (λ (o : Option ℕ). option_is o job) (bars k) ∙ has.bars k;
-  holds = others job (share_in t) has.holds;
-}
-
-keeps_own : (begun : ℕ) (was now : Rows) → ((key : List ℕ) → bar_at now key ≡ bar_at was key) → LeavesJobs was now → (t : Task) → ((key : List ℕ) → fills_key (work_now t) key ≡ true → is_filling now key ≡ true) → IsOwn begun was t → IsOwn begun now t
-keeps_own begun was now bars others (tasks.Drops j) fills own = record { number = own.number; owns = keeps_token was now bars others j.worker.number j.worker.job.key j.worker.token own.owns }
-keeps_own begun was now bars others (tasks.Transfers w) fills own = record {
-  number = own.number;
-  owns = (keeps_token was now bars others (work_of w).number (work_of w).what.key tokens.Nothing own.owns.0, keeps_fill was now w fills own.owns.1);
-}
-
--- while the table fills their keys
-pub jobs_keep : (jobs : Jobs) (was now : Rows) → ((key : List ℕ) → bar_at now key ≡ bar_at was key) → LeavesJobs was now → ((key : List ℕ) → fills_at jobs.running key ≡ true → is_filling now key ≡ true) → JobsOwn jobs was → JobsOwn jobs now
-jobs_keep jobs was now bars others fills own = record {
-  tasks = own.tasks;
-  owns = Each-from_members (IsOwn jobs.begun now) jobs.running
-      (λ t among. keeps_own jobs.begun was now bars others t (λ key is. fills key (list_any_member (λ (x : Task). fills_key (work_now x) key) jobs.running t among is)) (Each-member (IsOwn jobs.begun was) jobs.running t own.owns among));
-  apart = own.apart;
-  later = λ job key beyond. keeps_token was now bars others job key tokens.Nothing (own.later job key beyond);
-}
 
 -- ---- all of it
 

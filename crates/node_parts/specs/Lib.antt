@@ -9,7 +9,6 @@ pub mod Sending
 pub mod Jobs
 pub mod Stored
 pub mod Closing
-pub mod Crashing
 pub use Rattle.running_jobs.specs.Acting
 pub use Rattle.running_jobs.specs.Beginning
 pub use Rattle.running_jobs.specs.Leaving

@@ -2,10 +2,10 @@
 use Rattle.std.proofs.Common.{◌∙◌, sym, subst, arith}
 use Rattle.std.proofs.lemmas.List.{nil_from_length}
 use Rattle.std.specs.Vec.Iter.{into_iter_items}
+use Rattle.node_crash.proofs.Ends.{stay_on, stay_same}
 use Rattle.node_parts.specs.Sending.{frames_of_drop}
 use Rattle.node_parts.proofs.Posting.{GoesWell, all_well, goes_first, goes_on_well, goes_placed}
 use Rattle.node_parts.proofs.Posts.{posts_on, posts_still}
-use Rattle.node_parts.proofs.Sounding.{stay_on, stay_same}
 use Rattle.node_parts.proofs.drop_frames.post_all.Goals as goal
 
 pub loop-parcel-init : goal.loop-parcel-init

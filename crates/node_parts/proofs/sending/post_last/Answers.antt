@@ -1,10 +1,10 @@
 -- A message is sent, and a Close.
 use Rattle.std.proofs.Common.{List, [], ◌∷◌, ◌++◌, refl, sym, ap, subst, ◌∙◌, append_assoc}
 use Rattle.run_data.specs.declared.entry.FrameView.{FrameView}
+use Rattle.node_crash.proofs.Ends.{stay_on}
 use Rattle.node_parts.specs.Sending.{IsPlaced}
 use Rattle.node_parts.proofs.Posting.{first_place}
 use Rattle.node_parts.proofs.Posts.{posts_on}
-use Rattle.node_parts.proofs.Sounding.{stay_on}
 use Rattle.node_parts.proofs.sending.post_last.Goals as goal
 
 pub returns-clause-posted : goal.returns-clause-posted

@@ -4,10 +4,10 @@ use Rattle.std.specs.Prelude.{flat_map}
 use Rattle.std.proofs.lemmas.List.{nil_from_length}
 use Rattle.std.specs.Vec.Iter.{into_iter_items}
 use Rattle.transfer_turns.specs.declared.parcels.Parcel.{Parcel}
+use Rattle.node_crash.proofs.Ends.{stay_on, stay_same}
 use Rattle.node_parts.specs.Sending.{AreAmong, frames_of_transfer, pieces_at}
 use Rattle.node_parts.proofs.Posting.{GoesWell, all_well, goes_first, goes_on_well, goes_placed}
 use Rattle.node_parts.proofs.Posts.{part_among, rest_among, with_more, with_still}
-use Rattle.node_parts.proofs.Sounding.{stay_on, stay_same}
 use Rattle.node_parts.proofs.transfer_frames.post_all.Goals as goal
 
 pub loop-parcel-init : goal.loop-parcel-init

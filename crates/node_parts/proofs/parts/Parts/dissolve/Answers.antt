@@ -2,7 +2,7 @@
 use Rattle.std.proofs.Common.{◌∙◌}
 use Rattle.run_data.specs.declared.entry.By.TheVariants.{Job as by_job}
 use Rattle.running_jobs.specs.Running.{fills_at}
-use Rattle.node_parts.proofs.Sounding.{jobs_keep, no_jobs}
+use Rattle.node_crash.proofs.Jobs.{jobs_keep, no_jobs}
 use Rattle.node_parts.proofs.parts.Parts.dissolve.Goals as goal
 
 pub end_all-requires : goal.end_all-requires

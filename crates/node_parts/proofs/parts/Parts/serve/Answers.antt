@@ -10,6 +10,7 @@ use Rattle.content_lock.specs.CallsMade.{MakesCalls, fewer}
 use Rattle.node_ends.specs.Joined.{StayPaired}
 use Rattle.node_sessions.specs.Serving.{ServesIf}
 use Rattle.running_jobs.specs.Running.{fills_at}
+use Rattle.node_crash.proofs.Jobs.{no_jobs}
 use Rattle.node_parts.specs.Parts.{AreAllFed, PartsView}
 use Rattle.node_parts.specs.Posting.{PostsPieces, stamp_of}
 use Rattle.node_parts.specs.declared.done.Done.{Done}
@@ -18,7 +19,7 @@ use Rattle.node_parts.specs.Stored.{parts_then}
 use Rattle.node_parts.proofs.Asked.{contents_served, has_of, parts_served}
 use Rattle.node_parts.proofs.Pieces.{served_pieces}
 use Rattle.node_parts.proofs.Served.{calls_of, failed_same, fed_served, leaves_at, made_at, no_job_served, none_served, quiet_served, step_of}
-use Rattle.node_parts.proofs.Sounding.{no_jobs, sound_after, there_still}
+use Rattle.node_parts.proofs.Sounding.{sound_after, there_still}
 use Rattle.node_parts.proofs.parts.Parts.serve.Goals as goal
 
 pub returns-in_err-served-clause-fed : goal.returns-in_err-served-clause-fed

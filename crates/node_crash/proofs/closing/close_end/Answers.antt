@@ -2,9 +2,9 @@
 use Rattle.std.proofs.Common.{[], ◌∷◌, List, sym, ◌∙◌, subst}
 use Rattle.run_data.specs.declared.entry.FrameView.{FrameView}
 use Rattle.node_ends.specs.Ends.{name_of}
-use Rattle.node_parts.specs.Crashing.{SendsCloses}
-use Rattle.node_parts.proofs.Crashes.{closed_sends_none, sends_none, sends_one}
-use Rattle.node_parts.proofs.crashing.shut_end.Goals as goal
+use Rattle.node_crash.specs.Closing.{SendsCloses}
+use Rattle.node_crash.proofs.Closes.{sends_closed, sends_one}
+use Rattle.node_crash.proofs.closing.close_end.Goals as goal
 
 pub returns-then-is_open-clause-closes : goal.returns-then-is_open-clause-closes
 returns-then-is_open-clause-closes c =
@@ -16,5 +16,4 @@ returns-then-is_open-clause-closes c =
 
 pub returns-else-is_open-clause-closes : goal.returns-else-is_open-clause-closes
 returns-else-is_open-clause-closes c =
-    let a = name_of c.args.id in
-    sends_none c.args.stamp c.args.ends.now (a ∷ []) c.args.sent.now.items (closed_sends_none c.args.ends.now a (sym c.is_open.ensures ∙ c.if-is_open.false))
+    sends_closed c.args.stamp c.args.ends.now (name_of c.args.id) c.args.sent.now.items (sym c.is_open.ensures ∙ c.if-is_open.false)

@@ -5,10 +5,8 @@ use Rattle.run_data.specs.declared.entry.By.TheVariants.{Job as by_job}
 use Rattle.content_lock.specs.Rows.{Rows, bar_at, is_filling}
 use Rattle.node_model.specs.Rows.{option_is}
 use Rattle.running_jobs.specs.Running.{fills_at}
-use Rattle.node_parts.proofs.Crashes.{agrees_labels}
-use Rattle.node_parts.proofs.Filling.{fills_of_jobs}
-use Rattle.node_parts.proofs.Sounding.{jobs_keep, no_jobs}
-use Rattle.node_parts.proofs.crashing.let_go.Goals as goal
+use Rattle.node_crash.proofs.Jobs.{fills_of_jobs, jobs_keep, no_jobs}
+use Rattle.node_crash.proofs.restarting.restart.Goals as goal
 
 pub end_all-requires : goal.end_all-requires
 end_all-requires c =
@@ -21,8 +19,8 @@ end_all-requires c =
           (fills_of_jobs table c.all_closed.new.self jobs.running (e.filled (fills_at jobs.running) c.requires.filled)) c.requires.acting;
     }
 
-pub returns-clause-goes : goal.returns-clause-goes
-returns-clause-goes c =
+pub returns-clause-restarts : goal.returns-clause-restarts
+returns-clause-restarts c =
     let e = c.all_closed.ensures in
     let table = c.all_closed.new.table in
     let r = c.restart.ensures in record {
@@ -42,5 +40,5 @@ returns-clause-goes c =
       };
       there = e.there;
       fed = e.fed;
-      agrees = λ known agrees. agrees_labels known table.holds c.restart.new.self.holds (r.stored ∙ c.end_all.ensures.labels) (e.agrees known agrees);
+      agrees = λ known agrees. λ records told. e.agrees known agrees records told ∙ sym (r.stored ∙ c.end_all.ensures.labels);
     }

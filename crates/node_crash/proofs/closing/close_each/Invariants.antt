@@ -1,8 +1,8 @@
 -- The ends with the repositories before this one.
 use Rattle.std.proofs.Common.{◌≡◌, ◌≤◌, ◌+◌, ◌*◌, vec_len}
 use Rattle.std.specs.Prelude.{vec_capacity}
-use Rattle.node_parts.specs.Crashing.{SendsCloses, all_names}
-use Rattle.node_parts.proofs.crashing.shut_each.Given as goal
+use Rattle.node_crash.specs.Closing.{SendsCloses, all_names}
+use Rattle.node_crash.proofs.closing.close_each.Given as goal
 
 abbrev pub invariant-loop-peer : goal.invariant-loop-peer
 invariant-loop-peer l = record {
