@@ -133,6 +133,11 @@ def transfers(files, bytes_each):
     return lines
 
 
+def syncs(files):
+    """So many files at the first of three repositories: a sync brings each to the others, and a second one finds nothing to do."""
+    return declare(3) + ["add r0 f%d text:%d" % (f, f) for f in range(files)] + ["sync r0"] * 2
+
+
 def placed(count):
     """Two repositories, of which the first has so many contents."""
     return declare(2) + ["have %s %s text:a" % (name(0), short_key(k)) for k in range(count)]
@@ -292,6 +297,7 @@ def main():
     table("contents of a MiB", [(n, n, contents(n, 1)) for n in (1, 4, 16, 64, 256)])
     table("MiB of one content, copied and got on", [(n, n, transfers(1, n << 20)) for n in (1, 2, 4, 8, 16)])
     doublings("files of 3 bytes, each copied and got on", doubled(64, 4_096), lambda n: transfers(n, 3))
+    doublings("files, brought by a sync to two more repositories, and a second sync", doubled(250, 4_000), syncs)
     for beside, title, numbers in (
         (placed, "keys at a node", (10, 100, 1000, 10000, 30000)),
         (located, "entries of a node, each a file of one line", (10, 100, 1000, 10000)),

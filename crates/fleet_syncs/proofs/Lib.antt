@@ -3,5 +3,4 @@ mod Walks
 mod Others
 mod Carried
 mod Planned
-mod Identified
 mod Wanting

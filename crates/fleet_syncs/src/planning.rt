@@ -22,11 +22,7 @@ use wanted_rules::Action;
 fn identifiers(alloc: Global, repos: &[RepoView]) -> Result<Vec<RepoId>, NoMemory>
     ensures { IfOk result (λ ids. ids.items ≡ map (λ repo. repo.id) repos.now) }
 {
-    let mut ids = Vec::new(alloc);
-    for repo in repos {
-        ids.push(repo.id)?;
-    }
-    Ok(ids)
+    Ok(repos.iter().map(|repo| repo.id).collect(alloc)?)
 }
 
 /// The plan of the repository. Each repository's expressions are read once; the cost grows with the lines of the branch, and with the
