@@ -1,7 +1,9 @@
 -- Words that ask for a storm.
-use Rattle.std.proofs.Common.{◌≡◌, ℕ, ◌≤◌, ◌<◌, List, [], ◌∷◌, length, get_or, Some, None, sym, ap, ◌∙◌, arith}
+use Rattle.std.proofs.Common.{◌≡◌, ℕ, ◌≤◌, ◌<◌, List, [], ◌∷◌, length, get_or, Option, Some, None, IfSome, codes, sym, ap, ◌∙◌, arith}
+use Rattle.std.specs.Fmt.{decimal}
 use Rattle.annex_base.specs.Decimal.{number_of}
 use Rattle.annex_base.proofs.DecimalLemmas.{number_is, number_some}
+use Rattle.script_answers.specs.declared.storms.Storm.{Storm}
 use Rattle.script_answers.specs.Storms.{AreNumbers, IsStormCommand, most_jobs}
 use Rattle.script_answers.specs.Top.{IsRunCommand}
 
@@ -31,6 +33,16 @@ too_many word other number jobs read is many are =
     let same : read ≡ jobs = cc in
     let few = are.few in
     omega (arith, same, few, many)
+
+-- words of which the first is `storm`, and the others are the numbers of what was read
+pub asked_by : (r : Option Storm) (words : List (List ℕ)) (word other : List ℕ) → words ≡ codes "storm" ∷ word ∷ other ∷ []
+    → IfSome r (λ s. AreNumbers word other s.number s.jobs) → IfSome r (λ s. IsStormCommand words s.number s.jobs)
+asked_by (Some s) words word other seen are = record {
+  words_are = seen ∙ ap (λ (w : List ℕ). codes "storm" ∷ w ∷ other ∷ []) are.word_is ∙ ap (λ (w : List ℕ). codes "storm" ∷ decimal s.number ∷ w ∷ []) are.other_is;
+  small = are.small;
+  few = are.few;
+}
+asked_by None words word other seen are = tt
 
 -- `run` alone asks for none
 pub run_is_no_storm : (words : List (List ℕ)) (number jobs : ℕ) → IsRunCommand words → IsStormCommand words number jobs → ⊥

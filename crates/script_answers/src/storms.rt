@@ -38,14 +38,14 @@ pub fn storm_of(words: &[String]) -> Option<Storm>
 {
     match words {
         [word, number, jobs] if word.as_str() == "storm" => {
-            storm(number.as_str().as_bytes(), jobs.as_str().as_bytes())
+            parse_storm(number.as_str().as_bytes(), jobs.as_str().as_bytes())
         }
         _ => None,
     }
 }
 
 /// The storm of these two words, if they are its numbers.
-fn storm(number: &[u8], jobs: &[u8]) -> Option<Storm>
+fn parse_storm(number: &[u8], jobs: &[u8]) -> Option<Storm>
     ensures asked { IfSome result (λ s. AreNumbers number.now jobs.now s.number s.jobs) }
     ensures other { IsNone result → (n m : ℕ) → AreNumbers number.now jobs.now n m → ⊥ }
 {
