@@ -2,5 +2,6 @@
 pub use Rattle.script_answers.specs.Exit
 pub use Rattle.script_answers.specs.Whole
 pub use Rattle.script_answers.specs.Runs
+pub use Rattle.script_answers.specs.Storms
 pub use Rattle.script_answers.specs.Top
 pub mod Doing

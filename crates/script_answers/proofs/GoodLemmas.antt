@@ -53,13 +53,13 @@ pub record Laws : Type 0 where
   pub causes : (run : Run) → runs.IsRun run → HasCauses run
 
 module _ (bytes : List ℕ) (script : List Command) (is_cut : Bool) (run : Run) (says : reading bytes ≡ Commands script) (r : IsRunOf script is_cut run) where
-  script_is : IsScript bytes script
+  pub script_is : IsScript bytes script
   script_is = record { says = says; built = r.built }
 
-  run_is : (limited_run (driver_input_of script) script).run ≡ run
+  pub run_is : (limited_run (driver_input_of script) script).run ≡ run
   run_is = ap (λ (x : LimitedRun). x.run) r.run_is
 
-  cut_is : (limited_run (driver_input_of script) script).is_cut ≡ is_cut
+  pub cut_is : (limited_run (driver_input_of script) script).is_cut ≡ is_cut
   cut_is = ap (λ (x : LimitedRun). x.is_cut) r.run_is
 
   -- it is good, up to where it is cut

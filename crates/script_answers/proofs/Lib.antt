@@ -3,5 +3,7 @@ pub mod WordLemmas
 pub mod DueLemmas
 pub mod ReportLemmas
 pub mod GoodLemmas
+pub mod StormLemmas
+pub mod StormWords
 pub mod FullLemmas
 pub mod EveryText

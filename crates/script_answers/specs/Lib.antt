@@ -3,3 +3,4 @@ pub mod Exit
 pub mod Whole
 pub mod Runs
 pub mod Top
+pub mod Storms

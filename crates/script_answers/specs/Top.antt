@@ -155,8 +155,3 @@ AnswersOther taken taken' _ = ⊥
 abbrev pub EndsWith : Status → List ℕ → Option (List ℕ) → Option (List ℕ) → Status → Type 0
 EndsWith status text taken taken' result =
     ((result ≡ status) × (taken' ≡ append_known taken text)) ⊎ ((result ≡ NoMemory) × (taken' ≡ taken))
-
--- what the sink has taken with each status
-pub record Answers (words : List (List ℕ)) (left left' taken taken' : Option (List ℕ)) (status : Status) : Type 0 where
-  pub run : IsRunCommand words → AnswersRun left left' taken taken' status
-  pub other : (IsRunCommand words → ⊥) → AnswersOther taken taken' status

@@ -70,6 +70,7 @@ pub fn missing_due(
     requires says { reading bytes.now ≡ Commands _script.now }
     requires first { first_unbuilt _script.now ≡ Some place }
     ensures due { IfOk result (λ d. IsDue bytes.now d.status d.text.items) }
+    ensures script { IfOk result (λ d. d.status ≡ Status.Script) }
     ensures good { OnOk result (HasGoodRun bytes.now) }
 {
     // Laws, for the proof: the command has a line, and no text is both told its lines and that one is missing.

@@ -6,10 +6,13 @@ ghost use Rattle.driver_model.specs.Limits.{limited_run};
 ghost use Rattle.driver_script.specs.Inputs.{driver_input_of};
 ghost use Rattle.driver_script.specs.Script.{IsScript};
 ghost use Rattle.script_answers.specs.declared.status.Status.{Status};
-ghost use Rattle.script_answers.specs.Top.{IsDue, MeetsEntries};
+ghost use Rattle.script_answers.specs.Top.{HasGoodRun, IsDue, MeetsEntries};
+ghost use Rattle.script_answers.specs.Storms.{KeepsStormKeys};
+ghost use Rattle.storm_script.specs.Storm.{storm_text};
 
 use driver_model::cut_runs_have_a_full_history;
 use driver_script::{scripts_are_built_or_not, scripts_may_be_driven, scripts_run_or_miss_a_form};
+use kept_copies::storms_keep_all_their_keys;
 
 /// Where the run of a script is cut, some repository has a full history in it, or a line comes to a close of more ends than there are places
 /// left: the `full` of a cut report follows from the rest of it (own).
@@ -32,4 +35,13 @@ pub fn one_answer_is_due_for_every_text()
     scripts_run_or_miss_a_form();
     scripts_are_built_or_not();
     cut_script_runs_have_a_full_history();
+}
+
+/// Where the run of a storm's script is good, and its text says its commands, some repository has each of its keys at the end (own).
+pub fn good_storms_keep_their_keys()
+    ensures { (number jobs : ℕ) → HasGoodRun (storm_text number jobs) → KeepsStormKeys number jobs }
+{
+    // Laws: each line of a script is one of a run, and a storm's run keeps its keys.
+    scripts_may_be_driven();
+    storms_keep_all_their_keys();
 }

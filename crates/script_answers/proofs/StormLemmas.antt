@@ -1,0 +1,69 @@
+-- What is answered to a storm.
+use Rattle.std.proofs.Common.{◌≡◌, ◌⊎◌, ℕ, Bool, true, false, List, Result, Ok, Err, IfOk, inr, refl, sym, ap, ◌∙◌, subst}
+use Rattle.run_data.specs.Histories.{most_entries}
+use Rattle.run_data.specs.declared.run.Run.{Run}
+use Rattle.script_commands.specs.declared.command.Command.{Command}
+use Rattle.script_lang.specs.Script.{reading, Commands}
+use Rattle.driver_script.specs.Script.{IsScript}
+use Rattle.storm_script.specs.Storm.{storm_text}
+use Rattle.storm_line.specs.Line.{storm_line}
+use Rattle.script_answers.specs.declared.due.Due.{Due}
+use Rattle.script_answers.specs.declared.status.Status.{Status}
+use Rattle.script_answers.specs.declared.status.Status.TheVariants.{Done, Script, Limit}
+use Rattle.script_answers.specs.Runs.{IsRunOf}
+use Rattle.script_answers.specs.Storms.{IsStormAnswer, IsStormDue, KeepsStormKeys}
+use Rattle.script_answers.specs.Top.{HasGoodRun, IsComplaint, IsDue, IsMissing, entries_name, limit_text}
+use Rattle.script_answers.proofs.DueLemmas.{HaveOneReading}
+use Rattle.script_answers.proofs.GoodLemmas.{Laws, cut_is, good_run, run_is, script_is}
+
+-- what has one status and one text
+pub answered_by : {E : Type 0} (r : Result Due E) (number jobs : ℕ) (status : Status) (text : List ℕ) → IfOk r (λ d. (d.status ≡ status) × (d.text.items ≡ text))
+    → IsStormAnswer number jobs status text → IfOk r (λ d. IsStormAnswer number jobs d.status d.text.items)
+answered_by (Ok d) number jobs status text is answer =
+    subst (λ (s : Status). IsStormAnswer number jobs s d.text.items) (sym is.0) (subst (IsStormAnswer number jobs status) (sym is.1) answer)
+answered_by (Err e) number jobs status text is answer = tt
+
+-- what is no line of a run has no run
+pub limit_answers : (number jobs : ℕ) (text : List ℕ) → IsStormDue number jobs Limit text → IsStormAnswer number jobs Limit text
+limit_answers number jobs text due = record { due = due; good = λ e. absurd cc; kept = λ e. absurd cc }
+
+pub place_answers : (number jobs : ℕ) (text : List ℕ) → IsStormDue number jobs Script text → IsStormAnswer number jobs Script text
+place_answers number jobs text due = record { due = due; good = λ e. absurd cc; kept = λ e. absurd cc }
+
+-- what misses a part
+pub missing_answers : {E : Type 0} (r : Result Due E) (number jobs : ℕ) (bytes : List ℕ) → bytes ≡ storm_text number jobs → IfOk r (λ d. IsDue bytes d.status d.text.items)
+    → IfOk r (λ d. d.status ≡ Script) → IfOk r (λ d. IsStormAnswer number jobs d.status d.text.items)
+missing_answers (Ok d) number jobs bytes text due is =
+    let here : IsComplaint bytes d.text.items ⊎ IsMissing bytes d.text.items = subst (λ (s : Status). IsDue bytes s d.text.items) is due in
+    subst (λ (s : Status). IsStormAnswer number jobs s d.text.items) (sym is)
+    (place_answers number jobs d.text.items (subst (λ (b : List ℕ). IsComplaint b d.text.items ⊎ IsMissing b d.text.items) text here))
+missing_answers (Err e) number jobs bytes text due is = tt
+
+module _ (number jobs : ℕ) (bytes : List ℕ) (script : List Command) (is_cut : Bool) (run : Run) (text : bytes ≡ storm_text number jobs) (says : reading bytes ≡ Commands script) (r : IsRunOf script is_cut run) where
+  storm_is : IsScript (storm_text number jobs) script
+  storm_is = subst (λ (b : List ℕ). IsScript b script) text (script_is bytes script is_cut run says r)
+
+  -- where a line met a full history
+  pub cut_answers : is_cut ≡ true → IsStormAnswer number jobs Limit (limit_text entries_name most_entries)
+  cut_answers cuts = limit_answers number jobs _ (inr (inr (record {
+    script = script;
+    is_script = storm_is;
+    cut = cut_is bytes script is_cut run says r ∙ cuts;
+    text_is = refl;
+  })))
+
+  -- and where none did
+  pub line_answers : (line : List ℕ) → HaveOneReading → Laws → ((n m : ℕ) → HasGoodRun (storm_text n m) → KeepsStormKeys n m) → is_cut ≡ false → line ≡ storm_line number jobs script run
+      → IsStormAnswer number jobs Done line
+  line_answers line one laws keeps whole line_is =
+      let good : HasGoodRun (storm_text number jobs) = subst HasGoodRun text (good_run bytes script is_cut run says r one laws) in
+      record {
+        due = record {
+          script = script;
+          is_script = storm_is;
+          whole = cut_is bytes script is_cut run says r ∙ whole;
+          text_is = line_is ∙ ap (storm_line number jobs script) (sym (run_is bytes script is_cut run says r));
+        };
+        good = λ e. good;
+        kept = λ e. keeps number jobs good;
+      }
