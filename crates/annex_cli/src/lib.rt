@@ -39,7 +39,7 @@ const USAGE: &[u8] = b"usage: annex run | threads | storm NUMBER JOBS\n";
 /// report to the sink. With `storm` and two numbers it runs the script of that storm and writes its line. Any other words are
 /// answered by the usage line (own).
 pub fn annex<R: Threads + Wait + Sync, S: Source, K: Sink, G: Gate>(
-    _rt: &R,
+    rt: &R,
     alloc: Global,
     words: &[String],
     source: &mut S,
@@ -73,16 +73,21 @@ pub fn annex<R: Threads + Wait + Sync, S: Source, K: Sink, G: Gate>(
         → EndsWith Status.Limit (report script (limited_run (driver_input_of script) script).run ++ limit_text entries_name most_entries) (K.taken sink.old) (K.taken sink.new) result }
 {
     if !is_run(words) {
-        return answer_other(alloc, words, sink);
+        return answer_other(rt, alloc, words, sink);
     }
     // laws, for the proof of what is due
     scripts_are_built_or_not();
     cut_script_runs_have_a_full_history();
-    run(alloc, source, sink)
+    run(rt, alloc, source, sink)
 }
 
 /// Runs the storm that the words ask for, if they do, and else writes the usage line.
-fn answer_other<K: Sink>(alloc: Global, words: &[String], sink: &mut K) -> Status
+fn answer_other<R: Threads + Sync, K: Sink>(
+    rt: &R,
+    alloc: Global,
+    words: &[String],
+    sink: &mut K,
+) -> Status
     ensures storm { (number jobs : ℕ) → IsStormCommand (map string_bytes words.now) number jobs → AnswersStorm number jobs (K.taken sink.old) (K.taken sink.new) result }
     ensures other { (AsksStorm (map string_bytes words.now) → ⊥) → AnswersOther (K.taken sink.old) (K.taken sink.new) result }
     ensures read { result ≢ Status.ReadFault }
@@ -95,16 +100,21 @@ fn answer_other<K: Sink>(alloc: Global, words: &[String], sink: &mut K) -> Statu
             Err(Failed) => Status::WriteFault,
         };
     };
-    run_storm(alloc, storm, sink)
+    run_storm(rt, alloc, storm, sink)
 }
 
 /// Runs a storm and writes its line.
-fn run_storm<K: Sink>(alloc: Global, storm: Storm, sink: &mut K) -> Status
+fn run_storm<R: Threads + Sync, K: Sink>(
+    rt: &R,
+    alloc: Global,
+    storm: Storm,
+    sink: &mut K,
+) -> Status
     ensures answers { AnswersStorm storm.number storm.jobs (K.taken sink.old) (K.taken sink.new) result }
     ensures write { result ≡ Status.WriteFault → Rose (K.faults sink.old) (K.faults sink.new) }
     ensures write_failed { K.faults sink.old < K.faults sink.new → result ≡ Status.WriteFault }
 {
-    let Ok(due) = storm_answer(alloc, storm) else {
+    let Ok(due) = storm_answer(rt, alloc, storm) else {
         return Status::NoMemory;
     };
     match write_whole(sink, &due.text) {
@@ -114,7 +124,12 @@ fn run_storm<K: Sink>(alloc: Global, storm: Storm, sink: &mut K) -> Status
 }
 
 /// Reads a script, runs it and writes the report.
-fn run<S: Source, K: Sink>(alloc: Global, source: &mut S, sink: &mut K) -> Status
+fn run<R: Threads + Sync, S: Source, K: Sink>(
+    rt: &R,
+    alloc: Global,
+    source: &mut S,
+    sink: &mut K,
+) -> Status
     ensures answers { AnswersRun (S.left source.old) (S.left source.new) (K.taken sink.old) (K.taken sink.new) result }
     ensures read { result ≡ Status.ReadFault → Rose (S.faults source.old) (S.faults source.new) }
     ensures write { result ≡ Status.WriteFault → Rose (K.faults sink.old) (K.faults sink.new) }
@@ -126,7 +141,7 @@ fn run<S: Source, K: Sink>(alloc: Global, source: &mut S, sink: &mut K) -> Statu
         Err(ReadStop::Failed) => return Status::ReadFault,
         Err(ReadStop::NoMemory) => return Status::NoMemory,
     };
-    let Ok(due) = due_text(alloc, &bytes) else {
+    let Ok(due) = due_text(rt, alloc, &bytes) else {
         return Status::NoMemory;
     };
     match write_whole(sink, &due.text) {

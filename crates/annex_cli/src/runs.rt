@@ -19,9 +19,14 @@ use object_store::{FailingKeeper, MemoryKeeper};
 use script_answers::Ran;
 use script_lang::Script;
 use std::alloc::Global;
+use std::thread::Threads;
 
 /// Does the script's lines, one after the other, up to one that meets a full history.
-fn run_lines<K: FailingKeeper>(fleet: &mut Fleet<K>, script: &Script) -> Result<(), FleetStop>
+fn run_lines<R: Threads + Sync, K: FailingKeeper>(
+    rt: &R,
+    fleet: &mut Fleet<K>,
+    script: &Script,
+) -> Result<(), FleetStop>
     requires built { first_unbuilt script.now ≡ None }
     requires stand { AllStand no_context script.now }
     requires few { length script.now ≤ most_lines }
@@ -37,13 +42,17 @@ fn run_lines<K: FailingKeeper>(fleet: &mut Fleet<K>, script: &Script) -> Result<
     scripts_are_built_or_not();
     let commands = script.lines();
     for command in commands {
-        fleet.line(command)?;
+        fleet.line(rt, command)?;
     }
     Ok(())
 }
 
 /// The run of the script, each repository over a store in memory, up to where a line meets a full history, if one does.
-pub fn run_script(alloc: Global, script: &Script) -> Result<Ran, NoMemory>
+pub fn run_script<R: Threads + Sync>(
+    rt: &R,
+    alloc: Global,
+    script: &Script,
+) -> Result<Ran, NoMemory>
     requires built { first_unbuilt script.now ≡ None }
     requires stand { AllStand no_context script.now }
     requires run { MayRun (repos_of script.now) }
@@ -54,7 +63,7 @@ pub fn run_script(alloc: Global, script: &Script) -> Result<Ran, NoMemory>
     // A law: what the driver is given decides whether bytes are a key's.
     bytes_are_matched();
     let mut fleet = Fleet::new(alloc, script)?;
-    let ended = run_lines(&mut fleet, script);
+    let ended = run_lines(rt, &mut fleet, script);
     let run = fleet.finish();
     match ended {
         Ok(()) => Ok(Ran { run, is_cut: false }),

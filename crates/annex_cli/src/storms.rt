@@ -13,18 +13,24 @@ use driver_script::{first_missing, scripts_may_be_driven};
 use script_answers::{Due, SCRIPT_LIMIT, Storm, complaint_due, limit_due, missing_due, storm_due};
 use script_lang::{Script, ScriptFault, commands_stand, scripts_have_few_lines};
 use std::alloc::Global;
+use std::thread::Threads;
 use storm_text::storm_lines;
 
 /// What is due for a storm.
-pub fn storm_answer(alloc: Global, storm: Storm) -> Result<Due, NoMemory>
+pub fn storm_answer<R: Threads + Sync>(rt: &R, alloc: Global, storm: Storm) -> Result<Due, NoMemory>
     ensures { IfOk result (λ d. IsStormAnswer storm.number storm.jobs d.status d.text.items) }
 {
     let bytes = storm_lines(alloc, storm.number, storm.jobs)?;
-    text_due(alloc, storm, &bytes)
+    text_due(rt, alloc, storm, &bytes)
 }
 
 /// What is due for a storm whose text this is.
-fn text_due(alloc: Global, storm: Storm, bytes: &[u8]) -> Result<Due, NoMemory>
+fn text_due<R: Threads + Sync>(
+    rt: &R,
+    alloc: Global,
+    storm: Storm,
+    bytes: &[u8],
+) -> Result<Due, NoMemory>
     requires { bytes.now ≡ storm_text storm.number storm.jobs }
     ensures { IfOk result (λ d. IsStormAnswer storm.number storm.jobs d.status d.text.items) }
 {
@@ -32,7 +38,7 @@ fn text_due(alloc: Global, storm: Storm, bytes: &[u8]) -> Result<Due, NoMemory>
         return limit_due(alloc, "script", SCRIPT_LIMIT as u64);
     }
     match Script::parse(alloc, bytes) {
-        Ok(script) => script_due(alloc, storm, bytes, &script),
+        Ok(script) => script_due(rt, alloc, storm, bytes, &script),
         Err(ScriptFault::BadLine { line, byte }) => complaint_due(alloc, line, byte),
         Err(ScriptFault::TooMuch { quantity }) => {
             limit_due(alloc, quantity.name(), quantity.limit())
@@ -42,7 +48,13 @@ fn text_due(alloc: Global, storm: Storm, bytes: &[u8]) -> Result<Due, NoMemory>
 }
 
 /// What is due for a storm with this script.
-fn script_due(alloc: Global, storm: Storm, bytes: &[u8], script: &Script) -> Result<Due, NoMemory>
+fn script_due<R: Threads + Sync>(
+    rt: &R,
+    alloc: Global,
+    storm: Storm,
+    bytes: &[u8],
+    script: &Script,
+) -> Result<Due, NoMemory>
     requires text { bytes.now ≡ storm_text storm.number storm.jobs }
     requires short { length bytes.now ≤ script_limit }
     requires says { reading bytes.now ≡ Commands script.now }
@@ -50,13 +62,19 @@ fn script_due(alloc: Global, storm: Storm, bytes: &[u8], script: &Script) -> Res
 {
     let commands = script.lines();
     match first_missing(commands) {
-        None => run_due(alloc, storm, bytes, script),
+        None => run_due(rt, alloc, storm, bytes, script),
         Some(place) => missing_due(alloc, bytes, script, place),
     }
 }
 
 /// The line of a storm with this script.
-fn run_due(alloc: Global, storm: Storm, bytes: &[u8], script: &Script) -> Result<Due, NoMemory>
+fn run_due<R: Threads + Sync>(
+    rt: &R,
+    alloc: Global,
+    storm: Storm,
+    bytes: &[u8],
+    script: &Script,
+) -> Result<Due, NoMemory>
     requires text { bytes.now ≡ storm_text storm.number storm.jobs }
     requires short { length bytes.now ≤ script_limit }
     requires says { reading bytes.now ≡ Commands script.now }
@@ -67,6 +85,6 @@ fn run_due(alloc: Global, storm: Storm, bytes: &[u8], script: &Script) -> Result
     commands_stand();
     scripts_may_be_driven();
     scripts_have_few_lines();
-    let ran = run_script(alloc, script)?;
+    let ran = run_script(rt, alloc, script)?;
     storm_due(alloc, storm, bytes, script, &ran)
 }

@@ -23,6 +23,7 @@ use run_paths::PathIndex;
 use script_lang::{Command, Script};
 use std::alloc::Global;
 use std::marker::Model;
+use std::thread::Threads;
 
 /// The repositories of a script as nodes, and the run so far: copies of the entries that they made, in order (own). Before the first
 /// line, and after each line that was done, it has come to where the driver of scripts is. After a refusal the fleet does no further
@@ -117,14 +118,14 @@ impl<K: FailingKeeper> Fleet<K> {
         Ok(Fleet { running })
     }
 
-    /// Does what the line says, and marks how many entries stand after it. It is refused as Full where the line meets a full history,
-    /// or is a close for which too few places are left.
+    /// Does what the line says, and marks how many entries stand after it; threads make the plans of a sync. It is refused as Full where
+    /// the line meets a full history, or is a close for which too few places are left.
     /// After a refusal the run has the entries that it had, and then a start of those that the line makes; so it is a run still. Its
     /// repositories and marks are as they were, and its tree but for a path that the line named. After a refusal the fleet does no further
     /// line: its run may lack entries that a node made. So a line is done only where the fleet has come to where some driver is, as it has
     /// before the first line and after each line that was done. A fleet does at most 2^28 lines, so that its run has fewer than 2^30
     /// entries: of each repository at most 100,000, and of each line at most one wait.
-    pub fn line(&mut self, command: &Command) -> Result<(), FleetStop>
+    pub fn line<R: Threads + Sync>(&mut self, rt: &R, command: &Command) -> Result<(), FleetStop>
         requires may { MayBeDone self.old command.now }
         requires few { length self.old.run.marks < most_lines }
         requires driven { IsDrivenWithin (λ k. store_view (K.contents k) (K.parts k) (K.failing k) (K.faults k)) (length self.old.run.marks) self.old }
@@ -136,7 +137,7 @@ impl<K: FailingKeeper> Fleet<K> {
         ensures stopped { OnErr result (StopsWithin (λ k. store_view (K.contents k) (K.parts k) (K.failing k) (K.faults k)) (does_command command.now) self.old self.new) }
         ensures kept { OnErr result (OnlyAddsBehind self.old self.new) }
     {
-        do_and_mark(&mut self.running, command)
+        do_and_mark(rt, &mut self.running, command)
     }
 
     /// The run of the lines so far.

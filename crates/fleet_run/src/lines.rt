@@ -16,9 +16,11 @@ use fleet_syncs::{begin_and_settle, sync};
 use fleet_turns::{close, crash, settle, take_turns, wait};
 use object_store::FailingKeeper;
 use script_lang::{Action, Command};
+use std::thread::Threads;
 
 /// Does what the line says, and marks how many entries stand after it.
-pub fn do_and_mark<K: FailingKeeper>(
+pub fn do_and_mark<R: Threads + Sync, K: FailingKeeper>(
+    rt: &R,
     running: &mut Running<K>,
     command: &Command,
 ) -> Result<(), FleetStop>
@@ -35,7 +37,7 @@ pub fn do_and_mark<K: FailingKeeper>(
 {
     // Laws: no line changes the marks before it, and no past with few entries of each repository is too long.
     runs_are_cut_where_histories_are_full();
-    do_line(running, command)?;
+    do_line(rt, running, command)?;
     // For the proof: no history is longer than it may be.
     running.nodes.histories_are_few();
     running.mark()?;
@@ -43,7 +45,11 @@ pub fn do_and_mark<K: FailingKeeper>(
 }
 
 /// Does what the line says. A line that declares or shows something does nothing.
-fn do_line<K: FailingKeeper>(running: &mut Running<K>, command: &Command) -> Result<(), FleetStop>
+fn do_line<R: Threads + Sync, K: FailingKeeper>(
+    rt: &R,
+    running: &mut Running<K>,
+    command: &Command,
+) -> Result<(), FleetStop>
     requires driven { IsDriven (λ k. store_view (K.contents k) (K.parts k) (K.failing k) (K.faults k)) running.old }
     requires may { MayBeDone running.old command.now }
     ensures ok { OnOk result (GoesOn (λ k. store_view (K.contents k) (K.parts k) (K.failing k) (K.faults k)) (does_command command.now) running.old running.new) }
@@ -53,14 +59,18 @@ fn do_line<K: FailingKeeper>(running: &mut Running<K>, command: &Command) -> Res
     ensures rest { OnlyAddsBehind running.old running.new }
 {
     match command {
-        Command::Does { action } => act(running, action),
+        Command::Does { action } => act(rt, running, action),
         Command::Repo { .. } | Command::Shows { .. } => Ok(()),
         Command::Damage { .. } | Command::Par { .. } => unreachable!(),
     }
 }
 
 /// Does the action.
-fn act<K: FailingKeeper>(running: &mut Running<K>, action: &Action) -> Result<(), FleetStop>
+fn act<R: Threads + Sync, K: FailingKeeper>(
+    rt: &R,
+    running: &mut Running<K>,
+    action: &Action,
+) -> Result<(), FleetStop>
     requires driven { IsDriven (λ k. store_view (K.contents k) (K.parts k) (K.failing k) (K.faults k)) running.old }
     requires may { MayBeDone running.old (commands.Does action.now) }
     ensures ok { OnOk result (GoesOn (λ k. store_view (K.contents k) (K.parts k) (K.failing k) (K.faults k)) (does_command (commands.Does action.now)) running.old running.new) }
@@ -94,7 +104,7 @@ fn act<K: FailingKeeper>(running: &mut Running<K>, action: &Action) -> Result<()
         Action::Raw { repo, file, line } => write(running, *repo, file, line),
         Action::Merge { repo, other } => merge(running, *repo, *other),
         Action::Compact { repo } => compact(running, *repo),
-        Action::Sync { repo } => sync(running, *repo),
+        Action::Sync { repo } => sync(rt, running, *repo),
         Action::Begin { repo, job } => begin(running, *repo, job),
         Action::Run { repo, job } => begin_and_settle(running, *repo, job),
         Action::Turns { repo, turns } => take_turns(running, *repo, *turns),

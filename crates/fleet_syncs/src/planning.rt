@@ -14,7 +14,8 @@ use past_facts::kept_lines_read_as_all;
 use run_data::RepoView;
 use run_paths::trees_have_all_marks_before;
 use std::alloc::Global;
-use sync_core::plan;
+use std::thread::Threads;
+use sync_core::par_plan;
 use trust_groups::Settings;
 use wanted_rules::Action;
 
@@ -25,9 +26,10 @@ fn identifiers(alloc: Global, repos: &[RepoView]) -> Result<Vec<RepoId>, NoMemor
     Ok(repos.iter().map(|repo| repo.id).collect(alloc)?)
 }
 
-/// The plan of the repository. Each repository's expressions are read once; the cost grows with the lines of the branch, and with the
-/// number of keys times that of repositories.
-pub(crate) fn plan_of<K: FailingKeeper>(
+/// The plan of the repository, whose parts threads make. The cost grows with the lines of the branch, and with the number of keys times
+/// that of repositories.
+pub(crate) fn plan_of<R: Threads + Sync, K: FailingKeeper>(
+    rt: &R,
     running: &mut Running<K>,
     repo: u32,
 ) -> Result<Vec<Action>, NoMemory>
@@ -46,5 +48,12 @@ pub(crate) fn plan_of<K: FailingKeeper>(
     running
         .index
         .follow(running.alloc, running.run.tree.as_slice())?;
-    plan(running.alloc, &settings, running.index.tree(), repo, &ids)
+    par_plan(
+        rt,
+        running.alloc,
+        &settings,
+        running.index.tree(),
+        repo,
+        &ids,
+    )
 }

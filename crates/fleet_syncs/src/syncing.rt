@@ -10,6 +10,7 @@ use crate::sharing::share_logs;
 use driver_model::{drivers_only_add, runs_are_cut_where_histories_are_full};
 use fleet_entries::{FleetStop, Running};
 use object_store::FailingKeeper;
+use std::thread::Threads;
 use wanted_rules::Action;
 
 /// Whether the action brings a content somewhere.
@@ -37,7 +38,11 @@ fn keep_drops(actions: &mut Vec<Action>)
 }
 
 /// Carries out those actions of the repository's plan that bring contents.
-fn transfer<K: FailingKeeper>(running: &mut Running<K>, repo: u32) -> Result<(), FleetStop>
+fn transfer<R: Threads + Sync, K: FailingKeeper>(
+    rt: &R,
+    running: &mut Running<K>,
+    repo: u32,
+) -> Result<(), FleetStop>
     requires there { repo < length running.old.nodes }
     requires driven { IsDriven (λ k. store_view (K.contents k) (K.parts k) (K.failing k) (K.faults k)) running.old }
     ensures ok { OnOk result (GoesOn (λ k. store_view (K.contents k) (K.parts k) (K.failing k) (K.faults k)) (λ g d. transfers g repo d) running.old running.new) }
@@ -47,13 +52,17 @@ fn transfer<K: FailingKeeper>(running: &mut Running<K>, repo: u32) -> Result<(),
 {
     // A law: transfers only add entries, so the run is a start of them where memory runs out.
     drivers_only_add();
-    let mut actions = plan_of(running, repo)?;
+    let mut actions = plan_of(rt, running, repo)?;
     keep_transfers(&mut actions);
     carry_out(running, repo, &actions)
 }
 
 /// Carries out those actions of the repository's plan that drop contents.
-fn drop_spared<K: FailingKeeper>(running: &mut Running<K>, repo: u32) -> Result<(), FleetStop>
+fn drop_spared<R: Threads + Sync, K: FailingKeeper>(
+    rt: &R,
+    running: &mut Running<K>,
+    repo: u32,
+) -> Result<(), FleetStop>
     requires there { repo < length running.old.nodes }
     requires driven { IsDriven (λ k. store_view (K.contents k) (K.parts k) (K.failing k) (K.faults k)) running.old }
     ensures ok { OnOk result (GoesOn (λ k. store_view (K.contents k) (K.parts k) (K.failing k) (K.faults k)) (λ g d. drops_spared g repo d) running.old running.new) }
@@ -63,13 +72,14 @@ fn drop_spared<K: FailingKeeper>(running: &mut Running<K>, repo: u32) -> Result<
 {
     // A law: drops only add entries, so the run is a start of them where memory runs out.
     drivers_only_add();
-    let mut actions = plan_of(running, repo)?;
+    let mut actions = plan_of(rt, running, repo)?;
     keep_drops(&mut actions);
     carry_out(running, repo, &actions)
 }
 
 /// Logs are shared, and what a plan brings is brought.
-fn share_and_transfer<K: FailingKeeper>(
+fn share_and_transfer<R: Threads + Sync, K: FailingKeeper>(
+    rt: &R,
     running: &mut Running<K>,
     repo: u32,
 ) -> Result<(), FleetStop>
@@ -84,11 +94,15 @@ fn share_and_transfer<K: FailingKeeper>(
     drivers_only_add();
     runs_are_cut_where_histories_are_full();
     share_logs(running, repo)?;
-    transfer(running, repo)
+    transfer(rt, running, repo)
 }
 
 /// What a plan drops is dropped, and logs are shared.
-fn drop_and_share<K: FailingKeeper>(running: &mut Running<K>, repo: u32) -> Result<(), FleetStop>
+fn drop_and_share<R: Threads + Sync, K: FailingKeeper>(
+    rt: &R,
+    running: &mut Running<K>,
+    repo: u32,
+) -> Result<(), FleetStop>
     requires there { repo < length running.old.nodes }
     requires driven { IsDriven (λ k. store_view (K.contents k) (K.parts k) (K.failing k) (K.faults k)) running.old }
     ensures ok { OnOk result (GoesOn (λ k. store_view (K.contents k) (K.parts k) (K.failing k) (K.faults k)) (λ g d. shares_logs g repo (drops_spared g repo d)) running.old running.new) }
@@ -99,12 +113,17 @@ fn drop_and_share<K: FailingKeeper>(running: &mut Running<K>, repo: u32) -> Resu
     // Laws: a sharing only adds entries, and a full history that a drop meets is met still.
     drivers_only_add();
     runs_are_cut_where_histories_are_full();
-    drop_spared(running, repo)?;
+    drop_spared(rt, running, repo)?;
     share_logs(running, repo)
 }
 
 /// Logs are shared; what one plan of the repository brings is brought, and what a second plan drops is dropped; and logs are shared again.
-pub fn sync<K: FailingKeeper>(running: &mut Running<K>, repo: u32) -> Result<(), FleetStop>
+/// Threads make the plans.
+pub fn sync<R: Threads + Sync, K: FailingKeeper>(
+    rt: &R,
+    running: &mut Running<K>,
+    repo: u32,
+) -> Result<(), FleetStop>
     requires there { repo < length running.old.nodes }
     requires driven { IsDriven (λ k. store_view (K.contents k) (K.parts k) (K.failing k) (K.faults k)) running.old }
     ensures ok { OnOk result (GoesOn (λ k. store_view (K.contents k) (K.parts k) (K.failing k) (K.faults k)) (λ g d. syncs g repo d) running.old running.new) }
@@ -115,6 +134,6 @@ pub fn sync<K: FailingKeeper>(running: &mut Running<K>, repo: u32) -> Result<(),
     // Laws: drops and sharings only add entries, and a full history that a transfer meets is met still.
     drivers_only_add();
     runs_are_cut_where_histories_are_full();
-    share_and_transfer(running, repo)?;
-    drop_and_share(running, repo)
+    share_and_transfer(rt, running, repo)?;
+    drop_and_share(rt, running, repo)
 }

@@ -8,14 +8,14 @@ use Rattle.script_answers.proofs.StormLemmas.{answered_by, limit_answers, place_
 use Rattle.annex_cli.proofs.storms.text_due.Goals as goal
 
 pub returns-then-bytes-gt-SCRIPT_LIMIT : goal.returns-then-bytes-gt-SCRIPT_LIMIT
-returns-then-bytes-gt-SCRIPT_LIMIT c =
+returns-then-bytes-gt-SCRIPT_LIMIT g c =
     let n = c.args.storm.number in
     let m = c.args.storm.jobs in
     let long : IsLong c.args.bytes.now _ = record { long = omega arith; text_is = refl } in
     answered_by c.limit_due.result n m _ _ c.limit_due.ensures (limit_answers n m _ (inl (subst (λ (b : List ℕ). IsLong b _) c.requires long)))
 
 pub returns-in-Err-BadLine : goal.returns-in-Err-BadLine
-returns-in-Err-BadLine c =
+returns-in-Err-BadLine g c =
     let n = c.args.storm.number in
     let m = c.args.storm.jobs in
     let fault = c.in-Err-BadLine in
@@ -25,7 +25,7 @@ returns-in-Err-BadLine c =
     answered_by c.complaint_due.result n m _ _ c.complaint_due.ensures (place_answers n m text (inl (subst (λ (b : List ℕ). IsComplaint b text) c.requires complaint)))
 
 pub returns-in-Err-TooMuch : goal.returns-in-Err-TooMuch
-returns-in-Err-TooMuch c =
+returns-in-Err-TooMuch g c =
     let n = c.args.storm.number in
     let m = c.args.storm.jobs in
     let fault = c.in-Err-TooMuch in
