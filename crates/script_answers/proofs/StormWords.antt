@@ -1,11 +1,14 @@
 -- Words that ask for a storm.
-use Rattle.std.proofs.Common.{◌≡◌, ℕ, ◌≤◌, ◌<◌, List, [], ◌∷◌, length, get_or, Option, Some, None, IfSome, codes, sym, ap, ◌∙◌, arith}
+use Rattle.std.proofs.Common.{◌≡◌, ℕ, ◌≤◌, ◌<◌, List, [], ◌∷◌, length, get_or, Option, Some, None, IfSome, codes, refl, sym, ap, subst, ◌∙◌, arith}
 use Rattle.std.specs.Fmt.{decimal}
 use Rattle.annex_base.specs.Decimal.{number_of}
 use Rattle.annex_base.proofs.DecimalLemmas.{number_is, number_some}
+use Rattle.annex_base.proofs.Lists.{cons_first, cons_rest}
 use Rattle.script_answers.specs.declared.storms.Storm.{Storm}
-use Rattle.script_answers.specs.Storms.{AreNumbers, IsStormCommand, most_jobs}
-use Rattle.script_answers.specs.Top.{IsRunCommand}
+use Rattle.script_answers.specs.declared.status.Status.{Status}
+use Rattle.script_answers.specs.declared.status.Status.TheVariants.{Done, Usage, Script, ReadFault, WriteFault, NoMemory, Limit}
+use Rattle.script_answers.specs.Storms.{AnswersStorm, AreNumbers, IsStormCommand, most_jobs}
+use Rattle.script_answers.specs.Top.{AnswersOther, IsRunCommand}
 
 -- words that are read as numbers, of which the second isn't too great
 pub are_numbers : (word other : List ℕ) (number jobs : ℕ) → number_of word ≡ Some number → number_of other ≡ Some jobs → jobs ≤ most_jobs → AreNumbers word other number jobs
@@ -43,6 +46,41 @@ asked_by (Some s) words word other seen are = record {
   few = are.few;
 }
 asked_by None words word other seen are = tt
+
+-- ---- words ask for one storm at most
+
+decimal_once : (n m : ℕ) → n < 2 ^ 64 → m < 2 ^ 64 → decimal n ≡ decimal m → n ≡ m
+decimal_once n m small other e = let same : Some n ≡ Some m = sym (number_is n small) ∙ ap number_of e ∙ number_is m other in cc
+
+storm_once : (words : List (List ℕ)) (n m k l : ℕ) → IsStormCommand words n m → IsStormCommand words k l → (n ≡ k) × (m ≡ l)
+storm_once words n m k l first second =
+    let are : codes "storm" ∷ decimal n ∷ decimal m ∷ [] ≡ codes "storm" ∷ decimal k ∷ decimal l ∷ [] = sym first.words_are ∙ second.words_are in
+    let rest : decimal n ∷ decimal m ∷ [] ≡ decimal k ∷ decimal l ∷ [] = cons_rest (codes "storm") (codes "storm") (decimal n ∷ decimal m ∷ []) (decimal k ∷ decimal l ∷ []) are in
+    let last : decimal m ∷ [] ≡ decimal l ∷ [] = cons_rest (decimal n) (decimal k) (decimal m ∷ []) (decimal l ∷ []) rest in
+    let few = first.few in
+    let other_few = second.few in (
+      decimal_once n k first.small second.small (cons_first (decimal n) (decimal k) (decimal m ∷ []) (decimal l ∷ []) rest),
+      decimal_once m l (omega (arith, few)) (omega (arith, other_few)) (cons_first (decimal m) (decimal l) [] [] last),
+    )
+
+-- so what is answered to the storm that they ask for is what is answered to each
+pub answers_same : (words : List (List ℕ)) (s : Storm) (number jobs : ℕ) (taken taken' : Option (List ℕ)) (status : Status) → IsStormCommand words s.number s.jobs → IsStormCommand words number jobs
+    → AnswersStorm s.number s.jobs taken taken' status → AnswersStorm number jobs taken taken' status
+answers_same words s number jobs taken taken' status first second answers =
+    let same = storm_once words s.number s.jobs number jobs first second in
+    subst (λ (n : ℕ). AnswersStorm n jobs taken taken' status) same.0 (subst (λ (m : ℕ). AnswersStorm s.number m taken taken' status) same.1 answers)
+
+-- ---- other words
+
+-- the usage line is answered, unless the sink failed
+pub usage_only : (taken taken' : Option (List ℕ)) (status : Status) → AnswersOther taken taken' status → (status ≡ WriteFault → ⊥) → status ≡ Usage
+usage_only taken taken' Usage answers unless = refl
+usage_only taken taken' WriteFault answers unless = absurd (unless refl)
+usage_only taken taken' Done answers unless = absurd answers
+usage_only taken taken' Script answers unless = absurd answers
+usage_only taken taken' ReadFault answers unless = absurd answers
+usage_only taken taken' NoMemory answers unless = absurd answers
+usage_only taken taken' Limit answers unless = absurd answers
 
 -- `run` alone asks for none
 pub run_is_no_storm : (words : List (List ℕ)) (number jobs : ℕ) → IsRunCommand words → IsStormCommand words number jobs → ⊥

@@ -1,12 +1,34 @@
 -- What is answered is the one thing that is due.
-use Rattle.std.proofs.Common.{◌++◌}
+use Rattle.std.proofs.Common.{◌++◌, sym, ◌∙◌}
+use Rattle.std.proofs.lemmas.Bool.{true≢false}
 use Rattle.run_data.specs.Histories.{most_entries}
 use Rattle.driver_model.specs.Limits.{limited_run}
 use Rattle.driver_script.specs.Inputs.{driver_input_of}
 use Rattle.report_text.specs.Report.{report}
 use Rattle.script_answers.specs.Top.{entries_name, limit_text}
 use Rattle.script_answers.proofs.DueLemmas.{HaveOneReading, due_answered, due_cut, due_report}
+use Rattle.script_answers.proofs.StormWords.{run_is_no_storm, usage_only}
 use Rattle.annex_cli.proofs.annex.Goals as goal
+
+pub returns-then-not-is_run-clause-answers : goal.returns-then-not-is_run-clause-answers
+returns-then-not-is_run-clause-answers g c = record {
+  run = λ is. absurd (true≢false (sym (c.is_run.ensures.1 is) ∙ c.if-not-is_run.true));
+  storm = c.answer_other.ensures.storm;
+  other = λ no none. c.answer_other.ensures.other none;
+}
+
+pub returns-then-not-is_run-clause-usage : goal.returns-then-not-is_run-clause-usage
+returns-then-not-is_run-clause-usage g c = λ no none calm.
+    usage_only _ _ c.answer_other.result (c.answer_other.ensures.other none) (λ fault. calm (c.answer_other.ensures.write fault))
+
+pub returns-clause-answers : goal.returns-clause-answers
+returns-clause-answers g c =
+    let is = c.is_run.ensures.0 c.if-not-is_run.false in
+    record {
+      run = λ same. c.run.ensures.answers;
+      storm = λ number jobs asks. absurd (run_is_no_storm _ number jobs is asks);
+      other = λ no none. absurd (no is);
+    }
 
 pub returns-clause-due : goal.returns-clause-due
 returns-clause-due g c = λ bytes text status words left due read write.
