@@ -1,22 +1,22 @@
 -- What the words of storms say: repositories, keys, numbers of turns and the content.
-use Rattle.std.proofs.Common.{◌≡◌, ℕ, zero, suc, ◌+◌, ◌<◌, ◌≤◌, Bool, true, false, List, [], ◌∷◌, ◌++◌, length, Option, Some, None, refl, sym, ap, ◌∙◌, subst, arith, ◌⊎◌, inl, inr}
-use Rattle.std.specs.Prelude.{◌==◌, ◌↔◌, ◌^◌, codes, if◌then◌else◌, is_none, nat_le, IfSome}
+use Rattle.std.proofs.Common.{◌≡◌, ℕ, ◌+◌, ◌<◌, ◌≤◌, Bool, true, false, List, [], ◌∷◌, length, map, Option, Some, None, refl, sym, ap, ◌∙◌, subst, arith, inl, inr}
+use Rattle.std.specs.Prelude.{◌==◌, ◌↔◌, ◌^◌, codes, if◌then◌else◌, nat_le, IfSome}
 use Rattle.std.specs.List.{list_all, range_with_len}
 use Rattle.std.specs.Fmt.{decimal, digits}
 use Rattle.std.proofs.lemmas.Bool.{leb-true}
 use Rattle.std.proofs.lemmas.Bool.Decides.{nat_tests}
 use Rattle.std.proofs.lemmas.Str.{IsUtf8-from_is_utf8}
-use Rattle.annex_base.specs.Lists.{Each}
-use Rattle.annex_base.proofs.Lists.{Each-from_list_all}
+use Rattle.annex_base.specs.Lists.{Each, Member}
+use Rattle.annex_base.proofs.Lists.{Each-member, cons_first, cons_rest, list_all_member}
 use Rattle.annex_base.proofs.Lines.{one_line-by_test}
+use Rattle.annex_base.proofs.Numbers.{Member-range}
 use Rattle.annex_key.specs.KeyText.{IsKey, IsKeyText, KeyParts, is_digest_backend, key_text}
 use Rattle.annex_key.specs.View.{backend_part, first_fault, name_part, size_part}
 use Rattle.key_verify.specs.Digests.{digest_of, digest_text, key_method, told_digest, wanted_digest}
 use Rattle.key_verify.specs.Matching.{MatchesKey, verdict_of}
 use Rattle.key_verify.specs.Sums.{sum_of}
-use Rattle.key_verify.specs.declared.verdict.Verdict.{Verdict}
 use Rattle.key_verify.specs.declared.verdict.Verdict.TheVariants.{Right}
-use Rattle.script_forms.specs.Context.{Context, number_of_other, number_of_repo, unless}
+use Rattle.script_forms.specs.Context.{Context, number_of_other, number_of_repo}
 use Rattle.script_forms.specs.Steps.{if_matches, key_named, turns_of}
 use Rattle.script_forms.specs.Verify.{is_content_of, is_right}
 use Rattle.script_words.specs.Contents.{content_of}
@@ -24,23 +24,25 @@ use Rattle.script_words.specs.Fields as fields
 use Rattle.script_words.specs.Marks.{behind_mark}
 use Rattle.script_words.specs.Numbers.{number_up_to}
 use Rattle.storm_script.specs.Storm.{key_word, repo_word}
-use Rattle.storm_reading.specs.Reading.{all_repos, is_plain}
+use Rattle.storm_reading.proofs.Writing.{all_repos, is_plain}
 use Rattle.storm_reading.proofs.Stepping.{plain_utf8, plain_one_line}
 
 -- ---- numbers of a range
 
-here_or_later : (k p : ℕ) → k ≤ p → (k ≡ p) ⊎ (k + 1 ≤ p)
-here_or_later k p h = grind arith
-
 pub each_below : (P : ℕ → Type 0) (a n : ℕ) → Each P (range_with_len a n) → (r : ℕ) → a ≤ r → r < a + n → P r
-each_below P a zero each r low high = absurd (omega (arith, low, high))
-each_below P a (suc n) each r low high = elim (here_or_later a r low) [
-  | inl same ↦ subst P same each.0
-  | inr more ↦ each_below P (a + 1) n each.1 r more (omega (arith, high))
-]
+each_below P a n each r low high = Each-member P (range_with_len a n) r each (Member-range a n r low high)
 
 pub passes_below : (p : ℕ → Bool) (a n : ℕ) → list_all p (range_with_len a n) ≡ true → (r : ℕ) → a ≤ r → r < a + n → p r ≡ true
-passes_below p a n all r low high = each_below (λ (q : ℕ). p q ≡ true) a n (Each-from_list_all p (range_with_len a n) all) r low high
+passes_below p a n all r low high = list_all_member p (range_with_len a n) r all (Member-range a n r low high)
+
+same_among : {A : Type 0} (f g : ℕ → A) (rs : List ℕ) → map f rs ≡ map g rs → (r : ℕ) → Member r rs → f r ≡ g r
+same_among f g [] e r among = absurd among
+same_among f g (q ∷ rs) e r (inl here) = ap f here ∙ cons_first (f q) (g q) (map f rs) (map g rs) e ∙ ap g (sym here)
+same_among f g (q ∷ rs) e r (inr later) = same_among f g rs (cons_rest (f q) (g q) (map f rs) (map g rs) e) r later
+
+-- what is the same of each repository
+pub of_eight : {A : Type 0} (f g : ℕ → A) → map f (range_with_len 0 8) ≡ map g (range_with_len 0 8) → (r : ℕ) → r < 8 → f r ≡ g r
+of_eight f g e r h = same_among f g (range_with_len 0 8) e r (Member-range 0 8 r (omega arith) (omega (arith, h)))
 
 -- ---- repositories
 
@@ -50,7 +52,7 @@ repo_plain r h = passes_below (λ (q : ℕ). is_plain (repo_word q)) 0 8 refl r 
 
 pub repo_named : (r : ℕ) → r < 8 → number_of_repo all_repos (repo_word r) ≡ Some r
 unfolding digits
-repo_named r h = each_below (λ (q : ℕ). number_of_repo all_repos (repo_word q) ≡ Some q) 0 8 (refl, (refl, (refl, (refl, (refl, (refl, (refl, (refl, tt)))))))) r (omega arith) (omega (arith, h))
+repo_named r h = of_eight (λ (q : ℕ). number_of_repo all_repos (repo_word q)) (λ (q : ℕ). Some q) refl r h
 
 pub other_named : (r p : ℕ) → (r == p) ≡ false → p < 8 → number_of_other all_repos r (repo_word p) ≡ Some p
 other_named r p apart h = rw (repo_named p h, apart) refl

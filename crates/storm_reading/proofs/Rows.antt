@@ -1,25 +1,28 @@
 -- What the forms of a storm's lines say.
-use Rattle.std.proofs.Common.{◌≡◌, ℕ, ◌<◌, ◌≤◌, Bool, true, false, List, [], ◌∷◌, ◌++◌, drop, Option, Some, None, Result, Ok, refl, sym, ap, ◌∙◌, append-nil}
+use Rattle.std.proofs.Common.{◌≡◌, ℕ, ◌<◌, ◌≤◌, true, false, List, [], ◌∷◌, ◌++◌, drop, Some, None, Ok, refl, sym, ap, ◌∙◌, arith, append-nil}
 use Rattle.std.specs.Prelude.{◌==◌, codes}
 use Rattle.std.specs.Fmt.{decimal, digits}
+use Rattle.log_lines.specs.declared.entry.LogKind.TheVariants.{Numcopies}
+use Rattle.log_lines.specs.declared.entry.Topic.TheVariants.{Whole}
+use Rattle.log_lines.specs.declared.entry.Value.TheVariants.{Number}
 use Rattle.run_data.specs.declared.job.JobKind.TheVariants as jobs
-use Rattle.script_commands.specs.declared.command.Action.TheVariants.{Begin, Crash, Have, Merge, Settle, Turns}
-use Rattle.script_commands.specs.declared.command.Command.{Command}
+use Rattle.script_commands.specs.declared.command.Action.TheVariants.{Begin, Crash, Have, Merge, Set, Settle, Turns}
 use Rattle.script_commands.specs.declared.command.Command.TheVariants.{Does}
 use Rattle.script_forms.specs.declared.verb.Verb.TheVariants as verbs
 use Rattle.script_forms.specs.declared.verb.BlockVerb.TheVariants as block_verbs
 use Rattle.script_forms.specs.declared.verb.JobVerb.TheVariants as job_verbs
 use Rattle.script_forms.specs.Context.{Context, number_of_other, number_of_repo}
 use Rattle.script_forms.specs.Forms.{job_named, row}
-use Rattle.script_forms.specs.Steps.{clock_at, content_at, from_at, if_matches, key_at, key_named, matching_at, other_at, repo_at, saying_at, this_word, to_at, turns_at, turns_of}
+use Rattle.script_forms.specs.Steps.{clock_at, from_at, if_matches, key_at, key_named, matching_at, number_at, other_at, repo_at, this_word, to_at, turns_at, turns_of}
 use Rattle.script_words.specs.Contents.{content_of}
 use Rattle.script_words.specs.Fields.{clock_of}
+use Rattle.script_words.specs.Numbers.{number_up_to}
 use Rattle.script_words.specs.Places.{Cursor}
 use Rattle.script_words.specs.Words.{is_break}
 use Rattle.storm_script.specs.Storm.{key_word, repo_word}
-use Rattle.storm_reading.specs.Reading.{all_repos, is_plain}
+use Rattle.storm_reading.proofs.Writing.{all_repos}
 use Rattle.storm_reading.proofs.Naming.{SayingLaws, content_said, key_plain, key_said, other_named, repo_named, repo_plain, turns_plain, turns_said}
-use Rattle.storm_reading.proofs.Stepping.{Reads, Stands, Takes, WordLaws, ended, nothing_taken, reads, takes}
+use Rattle.storm_reading.proofs.Stepping.{Reads, Takes, WordLaws, ended, nothing_taken, reads, takes}
 
 -- a word that stands last
 last : (word : List ℕ) → 32 ∷ word ≡ 32 ∷ (word ++ [])
@@ -98,6 +101,19 @@ module _ (words : WordLaws) (sayings : SayingLaws) (context : Context) (known : 
       let a = repo_reads at r (codes " s0") h refl e in
       let o = other_reads a.after r 0 apart (omega arith) a.behind in
       rw (a.gives, o.gives, ended words o.after o.behind) refl
+
+  two_reads : (at : Cursor) → Before at (codes " 2") → Reads (number_at 999999999 at) 2 []
+  unfolding number_at digits
+  two_reads at e =
+      reads words (number_up_to 999999999) at (32 ∷ []) (codes "2") [] 2 (record { goes_on = e; blank = refl; plain = refl; ends = refl })
+      ((sayings.numbers 999999999 2 (codes "2") (omega arith)).1 (refl, omega arith))
+
+  pub numcopies_row : (at : Cursor) → Before at (codes " s0 2") → (row verbs.Numcopies).1 context at ≡ Ok (Does (Set 0 Numcopies Whole (Number 2)))
+  unfolding digits
+  numcopies_row at e =
+      let a = repo_reads at 0 (codes " 2") (omega arith) refl e in
+      let n = two_reads a.after a.behind in
+      rw (a.gives, n.gives, ended words n.after n.behind) refl
 
   pub settle_row : (at : Cursor) → Before at [] → (row verbs.Settle).1 context at ≡ Ok (Does Settle)
   settle_row at e = rw (ended words at e) refl

@@ -1,5 +1,5 @@
 -- Steps of a line, each of which reads the word that stands next.
-use Rattle.std.proofs.Common.{◌≡◌, ℕ, zero, suc, ◌+◌, ◌<◌, Bool, true, false, List, [], ◌∷◌, ◌++◌, length, get_or, drop, Option, Some, None, Result, Ok, refl, sym, ap, ◌∙◌, arith, drop-drop}
+use Rattle.std.proofs.Common.{◌≡◌, ℕ, zero, suc, ◌+◌, ◌<◌, true, List, [], ◌∷◌, ◌++◌, length, get_or, drop, Option, Some, None, Result, Ok, refl, sym, ap, ◌∙◌, arith, drop-drop}
 use Rattle.std.specs.Prelude.{◌==◌, ◌↔◌, nat_lt, not}
 use Rattle.std.specs.List.{list_all}
 use Rattle.std.specs.Str.{is_utf8}
@@ -16,7 +16,7 @@ use Rattle.script_words.specs.Spelling.{IsBlank, IsNext, Spells}
 use Rattle.script_words.specs.Spelling.Spells.{Plain}
 use Rattle.script_words.specs.Words.{is_break, next_word, quote}
 use Rattle.script_words.specs.declared.words.NextWord.TheVariants.{NoWord, Word}
-use Rattle.storm_reading.specs.Reading.{is_plain, is_visible}
+use Rattle.storm_reading.proofs.Writing.{is_plain, is_visible}
 
 -- the laws of words
 pub record WordLaws : Type 0 where
@@ -105,18 +105,18 @@ pub reads : WordLaws → {A : Type 0} (says : List ℕ → Option A) (at : Curso
     → Reads (saying_at says at) x rest
 unfolding word_at
 reads laws says at spaces word rest x s said = record {
-    after = record { line = at.line; place = (at.place + length spaces) + length word };
-    gives = rw (next_is laws at spaces word rest s, said) refl;
-    behind = rest_is laws at spaces word rest s;
-  }
+  after = record { line = at.line; place = (at.place + length spaces) + length word };
+  gives = rw (next_is laws at spaces word rest s, said) refl;
+  behind = rest_is laws at spaces word rest s;
+}
 
 pub takes : WordLaws → {A : Type 0} (says : List ℕ → Option A) (at : Cursor) (spaces word rest : List ℕ) (x : A) → Stands at spaces word rest → says word ≡ Some x
     → Takes (option_at says at) (Some x) rest
 takes laws says at spaces word rest x s said = record {
-    after = record { line = at.line; place = (at.place + length spaces) + length word };
-    gives = rw (next_is laws at spaces word rest s, said) refl;
-    behind = rest_is laws at spaces word rest s;
-  }
+  after = record { line = at.line; place = (at.place + length spaces) + length word };
+  gives = rw (next_is laws at spaces word rest s, said) refl;
+  behind = rest_is laws at spaces word rest s;
+}
 
 none_next : WordLaws → (at : Cursor) → drop at.place at.line ≡ [] → next_word at.line at.place ≡ NoWord
 none_next laws at e = (laws.none at.line at.place).1 (ap (list_all is_space) e)
@@ -127,3 +127,7 @@ ended laws at e = rw (none_next laws at e) refl
 
 pub nothing_taken : WordLaws → {A : Type 0} (says : List ℕ → Option A) (at : Cursor) → drop at.place at.line ≡ [] → option_at says at ≡ (None, at)
 nothing_taken laws says at e = rw (none_next laws at e) refl
+
+-- a word that says something else
+pub not_taken : WordLaws → {A : Type 0} (says : List ℕ → Option A) (at : Cursor) (spaces word rest : List ℕ) → Stands at spaces word rest → says word ≡ None → option_at says at ≡ (None, at)
+not_taken laws says at spaces word rest s none = rw (next_is laws at spaces word rest s, none) refl

@@ -1,4 +1,4 @@
--- How lines of storms are written, and what they declare, for private contracts (own).
+-- How lines of storms are written, and what they declare.
 use Rattle.std.specs.Prelude.{ℕ, Bool, false, not, ◌==◌, ◌&&◌, nat_lt, List, [], ◌∷◌, map}
 use Rattle.std.specs.List.{list_all, range_with_len}
 use Rattle.script_forms.specs.declared.context.Repository.{Repository}
