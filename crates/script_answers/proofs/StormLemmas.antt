@@ -4,14 +4,17 @@ use Rattle.run_data.specs.Histories.{most_entries}
 use Rattle.run_data.specs.declared.run.Run.{Run}
 use Rattle.script_commands.specs.declared.command.Command.{Command}
 use Rattle.script_lang.specs.Script.{reading, Commands}
+use Rattle.driver_model.specs.Limits.{limited_run}
+use Rattle.driver_script.specs.Inputs.{driver_input_of}
 use Rattle.driver_script.specs.Script.{IsScript}
+use Rattle.kept_copies.specs.Storms.{storm_commands}
 use Rattle.storm_script.specs.Storm.{storm_text}
 use Rattle.storm_line.specs.Line.{storm_line}
 use Rattle.script_answers.specs.declared.due.Due.{Due}
 use Rattle.script_answers.specs.declared.status.Status.{Status}
 use Rattle.script_answers.specs.declared.status.Status.TheVariants.{Done, Script, Limit}
 use Rattle.script_answers.specs.Runs.{IsRunOf}
-use Rattle.script_answers.specs.Storms.{IsStormAnswer, IsStormDue, KeepsStormKeys}
+use Rattle.script_answers.specs.Storms.{IsStormAnswer, IsStormDue, KeepsStormKeys, storm_run}
 use Rattle.script_answers.specs.Top.{HasGoodRun, IsComplaint, IsDue, IsMissing, entries_name, limit_text}
 use Rattle.script_answers.proofs.DueLemmas.{HaveOneReading}
 use Rattle.script_answers.proofs.GoodLemmas.{Laws, cut_is, good_run, run_is, script_is}
@@ -39,30 +42,39 @@ missing_answers (Ok d) number jobs bytes text due is =
     (place_answers number jobs d.text.items (subst (λ (b : List ℕ). IsComplaint b d.text.items ⊎ IsMissing b d.text.items) text here))
 missing_answers (Err e) number jobs bytes text due is = tt
 
+-- the law of the texts of storms
+abbrev pub StormsSayCommands : Type 0
+StormsSayCommands = (number jobs : ℕ) → IsScript (storm_text number jobs) (storm_commands number jobs)
+
 module _ (number jobs : ℕ) (bytes : List ℕ) (script : List Command) (is_cut : Bool) (run : Run) (text : bytes ≡ storm_text number jobs) (says : reading bytes ≡ Commands script) (r : IsRunOf script is_cut run) where
   storm_is : IsScript (storm_text number jobs) script
   storm_is = subst (λ (b : List ℕ). IsScript b script) text (script_is bytes script is_cut run says r)
 
+  commands_are : HaveOneReading → StormsSayCommands → script ≡ storm_commands number jobs
+  commands_are one law = one.script (storm_text number jobs) script (storm_commands number jobs) storm_is (law number jobs)
+
+  cut_same : HaveOneReading → StormsSayCommands → (storm_run number jobs).is_cut ≡ is_cut
+  cut_same one law = ap (λ (cs : List Command). (limited_run (driver_input_of cs) cs).is_cut) (sym (commands_are one law)) ∙ cut_is bytes script is_cut run says r
+
   -- where a line met a full history
-  pub cut_answers : is_cut ≡ true → IsStormAnswer number jobs Limit (limit_text entries_name most_entries)
-  cut_answers cuts = limit_answers number jobs _ (inr (inr (record {
-    script = script;
-    is_script = storm_is;
-    cut = cut_is bytes script is_cut run says r ∙ cuts;
+  pub cut_answers : HaveOneReading → StormsSayCommands → is_cut ≡ true → IsStormAnswer number jobs Limit (limit_text entries_name most_entries)
+  cut_answers one law cuts = limit_answers number jobs _ (inr (inr (record {
+    is_script = law number jobs;
+    cut = cut_same one law ∙ cuts;
     text_is = refl;
   })))
 
   -- and where none did
-  pub line_answers : (line : List ℕ) → HaveOneReading → Laws → ((n m : ℕ) → HasGoodRun (storm_text n m) → KeepsStormKeys n m) → is_cut ≡ false → line ≡ storm_line number jobs script run
+  pub line_answers : (line : List ℕ) → HaveOneReading → StormsSayCommands → Laws → ((n m : ℕ) → HasGoodRun (storm_text n m) → KeepsStormKeys n m) → is_cut ≡ false → line ≡ storm_line number jobs script run
       → IsStormAnswer number jobs Done line
-  line_answers line one laws keeps whole line_is =
+  line_answers line one law laws keeps whole line_is =
       let good : HasGoodRun (storm_text number jobs) = subst HasGoodRun text (good_run bytes script is_cut run says r one laws) in
       record {
         due = record {
-          script = script;
-          is_script = storm_is;
-          whole = cut_is bytes script is_cut run says r ∙ whole;
-          text_is = line_is ∙ ap (storm_line number jobs script) (sym (run_is bytes script is_cut run says r));
+          is_script = law number jobs;
+          whole = cut_same one law ∙ whole;
+          text_is = subst (λ (cs : List Command). line ≡ storm_line number jobs cs (limited_run (driver_input_of cs) cs).run) (commands_are one law)
+              (line_is ∙ ap (storm_line number jobs script) (sym (run_is bytes script is_cut run says r)));
         };
         good = λ e. good;
         kept = λ e. keeps number jobs good;

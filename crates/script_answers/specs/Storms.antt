@@ -4,8 +4,7 @@ use Rattle.std.specs.declared.option.Option.{Option}
 use Rattle.std.specs.Io.KnownBytes.{append_known}
 use Rattle.std.specs.Fmt.{decimal}
 use Rattle.run_data.specs.Histories.{most_entries}
-use Rattle.script_commands.specs.declared.command.Command.{Command}
-use Rattle.driver_model.specs.Limits.{limited_run}
+use Rattle.driver_model.specs.Limits.{LimitedRun, limited_run}
 use Rattle.driver_script.specs.Inputs.{driver_input_of}
 use Rattle.driver_script.specs.Script.{IsScript}
 use Rattle.storm_script.specs.Storm.{storm_text}
@@ -38,18 +37,20 @@ pub record IsStormCommand (words : List (List ℕ)) (number jobs : ℕ) : Type 0
 abbrev pub AsksStorm : List (List ℕ) → Type 0
 AsksStorm words = (number : ℕ) × (jobs : ℕ) × IsStormCommand words number jobs
 
--- The text of the storm is a script whose forms are all built; no line meets a full history or lacks places, and the line is that of its run.
+-- the run of a storm's commands, up to where a line meets a full history or lacks places, if one does
+abbrev pub storm_run : ℕ → ℕ → LimitedRun
+storm_run number jobs = limited_run (driver_input_of (storm_commands number jobs)) (storm_commands number jobs)
+
+-- The text of the storm is a script of its commands; no line meets a full history or lacks places, and the line is that of their run.
 pub record IsStormLine (number jobs : ℕ) (text : List ℕ) : Type 0 where
-  pub script : List Command
-  pub is_script : IsScript (storm_text number jobs) script
-  pub whole : (limited_run (driver_input_of script) script).is_cut ≡ false
-  pub text_is : text ≡ storm_line number jobs script (limited_run (driver_input_of script) script).run
+  pub is_script : IsScript (storm_text number jobs) (storm_commands number jobs)
+  pub whole : (storm_run number jobs).is_cut ≡ false
+  pub text_is : text ≡ storm_line number jobs (storm_commands number jobs) (storm_run number jobs).run
 
 -- it is such a script, of which a line meets a full history or lacks places: the line names the limit alone
 pub record IsStormCut (number jobs : ℕ) (text : List ℕ) : Type 0 where
-  pub script : List Command
-  pub is_script : IsScript (storm_text number jobs) script
-  pub cut : (limited_run (driver_input_of script) script).is_cut ≡ true
+  pub is_script : IsScript (storm_text number jobs) (storm_commands number jobs)
+  pub cut : (storm_run number jobs).is_cut ≡ true
   pub text_is : text ≡ limit_text entries_name most_entries
 
 -- what is due for a storm
@@ -59,10 +60,9 @@ IsStormDue number jobs Script text = IsComplaint (storm_text number jobs) text �
 IsStormDue number jobs Limit text = IsLong (storm_text number jobs) text ⊎ (IsPast (storm_text number jobs) text ⊎ IsStormCut number jobs text)
 IsStormDue number jobs _ text = ⊥
 
--- where the text of the storm says its commands, some repository has each of its keys at the end of their run
+-- some repository has each of the storm's keys at the end of the run of its commands
 abbrev pub KeepsStormKeys : ℕ → ℕ → Type 0
-KeepsStormKeys number jobs = IsScript (storm_text number jobs) (storm_commands number jobs)
-    → kept_of (limited_run (driver_input_of (storm_commands number jobs)) (storm_commands number jobs)).run storm_keys ≡ 16
+KeepsStormKeys number jobs = kept_of (storm_run number jobs).run storm_keys ≡ 16
 
 -- the line that is due for the storm; where it is that of a run, the run is good and keeps its keys
 pub record IsStormAnswer (number jobs : ℕ) (status : Status) (text : List ℕ) : Type 0 where

@@ -13,6 +13,7 @@ ghost use Rattle.storm_script.specs.Storm.{storm_text};
 use driver_model::cut_runs_have_a_full_history;
 use driver_script::{scripts_are_built_or_not, scripts_may_be_driven, scripts_run_or_miss_a_form};
 use kept_copies::storms_keep_all_their_keys;
+use storm_reading::storms_say_their_commands;
 
 /// Where the run of a script is cut, some repository has a full history in it, or a line comes to a close of more ends than there are places
 /// left: the `full` of a cut report follows from the rest of it (own).
@@ -37,11 +38,12 @@ pub fn one_answer_is_due_for_every_text()
     cut_script_runs_have_a_full_history();
 }
 
-/// Where the run of a storm's script is good, and its text says its commands, some repository has each of its keys at the end (own).
+/// Where the run of a storm's script is good, some repository has each of its keys at the end (own).
 pub fn good_storms_keep_their_keys()
     ensures { (number jobs : ℕ) → HasGoodRun (storm_text number jobs) → KeepsStormKeys number jobs }
 {
-    // Laws: each line of a script is one of a run, and a storm's run keeps its keys.
+    // Laws: a storm's text is a script of its commands, each line of a script is one of a run, and a storm's run keeps its keys.
+    storms_say_their_commands();
     scripts_may_be_driven();
     storms_keep_all_their_keys();
 }

@@ -20,6 +20,7 @@ use run_laws::runs_are_safe;
 use script_lang::Script;
 use std::alloc::Global;
 use storm_line::storm_line;
+use storm_reading::storms_say_their_commands;
 
 /// The greatest number of jobs of a storm.
 const JOB_LIMIT: u64 = 2_000;
@@ -73,13 +74,14 @@ pub fn storm_due(
     requires run { IsRunOf script.now ran.now.is_cut ran.now.run }
     ensures { IfOk result (λ d. IsStormAnswer storm.number storm.jobs d.status d.text.items) }
 {
-    // Laws, for the proof that the run is good, has what the line wants, and keeps the storm's keys.
+    // Laws, for the proof that the run is that of the storm's commands, is good, has what the line wants, and keeps the storm's keys.
     scripts_may_be_driven();
     scripts_are_built_or_not();
     runs_keep_copies();
     runs_are_safe();
     refusals_have_causes();
     runs_log_lines();
+    storms_say_their_commands();
     good_storms_keep_their_keys();
     if ran.is_cut {
         return limit_due(alloc, "entries", ENTRY_LIMIT);

@@ -25,8 +25,11 @@ storm_line-requires-clause-few c =
 
 pub returns-then-ran : goal.returns-then-ran
 returns-then-ran c =
+    let law = c.scripts_are_built_or_not.ensures in
+    let one : HaveOneReading = record { script = law.script; line = law.line; one = law.one } in
     answered_by c.limit_due.result c.args.storm.number c.args.storm.jobs _ _ c.limit_due.ensures
-    (cut_answers c.args.storm.number c.args.storm.jobs c.args._bytes.now c.args.script.now _ c.args.ran.now.run c.requires.text c.requires.says c.requires.run c.if-ran.true)
+    (cut_answers c.args.storm.number c.args.storm.jobs c.args._bytes.now c.args.script.now _ c.args.ran.now.run c.requires.text c.requires.says c.requires.run one
+    c.storms_say_their_commands.ensures c.if-ran.true)
 
 pub returns : goal.returns
 returns c =
@@ -34,5 +37,5 @@ returns c =
     let one : HaveOneReading = record { script = law.script; line = law.line; one = law.one } in
     let laws : Laws = record { copies = c.runs_keep_copies.ensures; safe = c.runs_are_safe.ensures; causes = c.refusals_have_causes.ensures } in
     let written = c.in_ok-text.ensures ∙ ap (λ cs. storm_line c.args.storm.number c.args.storm.jobs cs c.args.ran.now.run) c.lines-commands.ensures in
-    line_answers c.args.storm.number c.args.storm.jobs c.args._bytes.now c.args.script.now _ c.args.ran.now.run c.requires.text c.requires.says c.requires.run _ one laws
+    line_answers c.args.storm.number c.args.storm.jobs c.args._bytes.now c.args.script.now _ c.args.ran.now.run c.requires.text c.requires.says c.requires.run _ one c.storms_say_their_commands.ensures laws
     c.good_storms_keep_their_keys.ensures c.if-ran.false written
