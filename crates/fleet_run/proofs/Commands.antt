@@ -23,7 +23,7 @@ use Rattle.driver_script.specs.Lines.{is_added, is_built, is_built_action, is_bu
 use Rattle.fleet_entries.specs.Beginning.{MayBegin}
 use Rattle.fleet_entries.specs.Stored.{StoreView}
 use Rattle.fleet_entries.specs.Fleets.{FleetView}
-use Rattle.fleet_keys.specs.Jobs.{MayBeginAmong}
+use Rattle.fleet_syncs.specs.Jobs.{MayBeginAmong}
 use Rattle.fleet_run.specs.Commands.{MayBeDone, does_command}
 use Rattle.fleet_entries.specs.AtDriver.{GoesOn, StopsWithin}
 use Rattle.run_data.specs.declared.entry.LogFile.TheVariants as files

@@ -10,10 +10,10 @@ use annex_key::key_texts_have_no_fault;
 use driver_model::runs_are_cut_where_histories_are_full;
 use driver_script::{added_contents_match, settings_are_plain};
 use fleet_entries::{FleetStop, Running};
-use fleet_keys::{begin, enter, fail_next, place, place_part};
-use fleet_logs::{compact, merge, set, write};
-use fleet_syncs::{begin_and_settle, sync};
-use fleet_turns::{close, crash, settle, take_turns, wait};
+use fleet_syncs::{
+    begin, begin_and_settle, close, compact, crash, enter, fail_next, merge, place, place_part,
+    set, settle, sync, take_turns, wait, write,
+};
 use object_store::FailingKeeper;
 use script_lang::{Action, Command};
 use std::thread::Threads;

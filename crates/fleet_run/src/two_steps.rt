@@ -12,7 +12,7 @@ use annex_base::Text;
 use annex_key::Key;
 use driver_model::{drivers_only_add, runs_are_cut_where_histories_are_full};
 use fleet_entries::{FleetStop, Running};
-use fleet_keys::{enter, place};
+use fleet_syncs::{enter, place};
 use object_store::FailingKeeper;
 use script_words::Content;
 
