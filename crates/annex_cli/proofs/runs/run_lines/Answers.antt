@@ -14,7 +14,7 @@ loop-command-init g c =
     (done_at_first _ c.args.script.now c.scripts_are_built_or_not.ensures.each c.args.fleet.now c.requires.built c.requires.stand c.requires.stands c.requires.driven)
 
 pub line-requires : goal.line-requires
-line-requires g c = λ κs.
+line-requires g c = λ κs lives.
     let all : List Command = c.lines-commands.result.now in
     let i = c.loop-command.command-index in
     let within : i < length all = omega arith in

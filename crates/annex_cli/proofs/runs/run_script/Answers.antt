@@ -7,7 +7,7 @@ use Rattle.annex_cli.proofs.RunLemmas.{done_at_last}
 use Rattle.annex_cli.proofs.runs.run_script.Goals as goal
 
 pub run_lines-ended-requires-clause-stands : goal.run_lines-ended-requires-clause-stands
-run_lines-ended-requires-clause-stands g c = λ κs. c.in_ok-fleet.ensures.stands (driver_input_of c.args.script.now) refl (record { decides = c.bytes_are_matched.ensures })
+run_lines-ended-requires-clause-stands g c = λ κs lives. c.in_ok-fleet.ensures.stands (driver_input_of c.args.script.now) refl (record { decides = c.bytes_are_matched.ensures })
 
 pub returns-in-Ok : goal.returns-in-Ok
 returns-in-Ok g c = subst (λ (run : Run). IsRunOf c.args.script.now false run) (sym c.finish-run.ensures) (done_at_last _ c.args.script.now c.run_lines-ended.new.fleet c.in-Ok.ensures.done)

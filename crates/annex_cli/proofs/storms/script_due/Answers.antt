@@ -5,7 +5,7 @@ use Rattle.script_answers.proofs.StormLemmas.{missing_answers}
 use Rattle.annex_cli.proofs.storms.script_due.Goals as goal
 
 pub run_due-requires-clause-built : goal.run_due-requires-clause-built
-run_due-requires-clause-built g c = λ κs. ap first_unbuilt (sym c.lines-commands.ensures) ∙ sym c.first_missing.ensures ∙ c.in-None.is
+run_due-requires-clause-built g c = λ κs lives. ap first_unbuilt (sym c.lines-commands.ensures) ∙ sym c.first_missing.ensures ∙ c.in-None.is
 
 pub missing_due-requires-clause-first : goal.missing_due-requires-clause-first
 missing_due-requires-clause-first g c = ap first_unbuilt (sym c.lines-commands.ensures) ∙ sym c.first_missing.ensures ∙ c.in-Some.is

@@ -200,10 +200,10 @@ returns-in-Compact g c =
     }
 
 pub sync-requires-clause-there : goal.sync-requires-clause-there
-sync-requires-clause-there g c = λ κs. below_more c.in-Sync.repo (length c.requires.may.context.repos) (length c.args.running.now.nodes) (stands_as c.requires.may.context c.args.action.now (actions.Sync c.in-Sync.repo) c.in-Sync.is c.requires.may.stands) c.requires.may.repos
+sync-requires-clause-there g c = λ κs lives. below_more c.in-Sync.repo (length c.requires.may.context.repos) (length c.args.running.now.nodes) (stands_as c.requires.may.context c.args.action.now (actions.Sync c.in-Sync.repo) c.in-Sync.is c.requires.may.stands) c.requires.may.repos
 
 pub sync-requires-clause-driven : goal.sync-requires-clause-driven
-sync-requires-clause-driven g c = λ κs. c.requires.driven
+sync-requires-clause-driven g c = λ κs lives. c.requires.driven
 
 pub returns-in-Sync : goal.returns-in-Sync
 returns-in-Sync g c =

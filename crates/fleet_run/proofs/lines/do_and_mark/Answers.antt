@@ -13,7 +13,7 @@ use Rattle.fleet_entries.proofs.Starts.{always_err, start_kept}
 use Rattle.fleet_run.proofs.lines.do_and_mark.Goals as goal
 
 pub do_line-requires-clause-driven : goal.do_line-requires-clause-driven
-do_line-requires-clause-driven g c = λ κs.
+do_line-requires-clause-driven g c = λ κs lives.
     let tells : g.row.K.Denot → StoreView = λ k. store_view (g.K.Keeper.contents k) (g.K.Keeper.parts k) (g.K.Keeper.failing k) (g.K.Keeper.faults k) in
     let few = c.requires.few in
     driven_within tells (length c.args.running.now.run.marks) most_lines c.args.running.now (omega (arith, few)) c.requires.driven

@@ -10,10 +10,10 @@ use Rattle.fleet_entries.proofs.Starts.{on_err}
 use Rattle.fleet_run.proofs.lines.do_line.Goals as goal
 
 pub act-requires-clause-driven : goal.act-requires-clause-driven
-act-requires-clause-driven g c = λ κs. c.requires.driven
+act-requires-clause-driven g c = λ κs lives. c.requires.driven
 
 pub act-requires-clause-may : goal.act-requires-clause-may
-act-requires-clause-may g c = λ κs. may_as c.args.running.now c.args.command.now (commands.Does c.in-Does.action) c.in-Does.is c.requires.may
+act-requires-clause-may g c = λ κs lives. may_as c.args.running.now c.args.command.now (commands.Does c.in-Does.action) c.in-Does.is c.requires.may
 
 pub returns-in-Does : goal.returns-in-Does
 returns-in-Does g c =

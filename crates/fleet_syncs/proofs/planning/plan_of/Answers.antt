@@ -14,7 +14,7 @@ use Rattle.fleet_syncs.proofs.Planned.{MayCarry, ids_count, ids_few, may_begin_a
 use Rattle.fleet_syncs.proofs.planning.plan_of.Goals as goal
 
 pub par_plan-requires-clause-here : goal.par_plan-requires-clause-here
-par_plan-requires-clause-here g c = λ κs.
+par_plan-requires-clause-here g c = λ κs lives.
     let tells : g.row.K.Denot → StoreView = λ k. store_view (g.K.Keeper.contents k) (g.K.Keeper.parts k) (g.K.Keeper.failing k) (g.K.Keeper.faults k) in
     let inside : FleetView g.row.K.Denot = record { nodes = c.running.inside.nodes; run = c.running.inside.run } in
     let driven = subst (IsDriven tells) (sym c.running.view_is) c.requires.driven in
@@ -22,7 +22,7 @@ par_plan-requires-clause-here g c = λ κs.
     subst (λ (n : ℕ). c.args.repo < n) (sym (ids_count tells inside c.deref.result.now driven are)) (subst (λ (f : FleetView g.row.K.Denot). c.args.repo < length f.nodes) (sym c.running.view_is) c.requires.there)
 
 pub par_plan-requires-clause-few : goal.par_plan-requires-clause-few
-par_plan-requires-clause-few g c = λ κs.
+par_plan-requires-clause-few g c = λ κs lives.
     let tells : g.row.K.Denot → StoreView = λ k. store_view (g.K.Keeper.contents k) (g.K.Keeper.parts k) (g.K.Keeper.failing k) (g.K.Keeper.faults k) in
     let inside : FleetView g.row.K.Denot = record { nodes = c.running.inside.nodes; run = c.running.inside.run } in
     let driven = subst (IsDriven tells) (sym c.running.view_is) c.requires.driven in

@@ -12,12 +12,12 @@ use Rattle.fleet_entries.proofs.Starts.{AtStart, always_err, later_start, on_err
 use Rattle.fleet_syncs.proofs.syncing.share_and_transfer.Goals as goal
 
 pub transfer-requires-clause-there : goal.transfer-requires-clause-there
-transfer-requires-clause-there g c = λ κs.
+transfer-requires-clause-there g c = λ κs lives.
     let tells : g.row.K.Denot → StoreView = λ k. store_view (g.K.Keeper.contents k) (g.K.Keeper.parts k) (g.K.Keeper.failing k) (g.K.Keeper.faults k) in
     subst (λ (n : ℕ). c.args.repo < n) (sym (same_count tells (λ given d. shares_logs given c.args.repo d) c.args.running.now c.share_logs.new.running c.requires.driven c.in_ok-share_logs.ensures.ok)) c.requires.there
 
 pub transfer-requires-clause-driven : goal.transfer-requires-clause-driven
-transfer-requires-clause-driven g c = λ κs.
+transfer-requires-clause-driven g c = λ κs lives.
     let tells : g.row.K.Denot → StoreView = λ k. store_view (g.K.Keeper.contents k) (g.K.Keeper.parts k) (g.K.Keeper.failing k) (g.K.Keeper.faults k) in
     driven_on tells most_lines most_lines (λ given d. shares_logs given c.args.repo d) c.args.running.now c.share_logs.new.running (λ given d. shares_few most_lines given c.args.repo d) c.requires.driven c.in_ok-share_logs.ensures.ok
 

@@ -13,12 +13,12 @@ use Rattle.fleet_syncs.proofs.Walks.{adds_twice}
 use Rattle.fleet_syncs.proofs.syncing.sync.Goals as goal
 
 pub drop_and_share-requires-clause-there : goal.drop_and_share-requires-clause-there
-drop_and_share-requires-clause-there g c = λ κs.
+drop_and_share-requires-clause-there g c = λ κs lives.
     let tells : g.row.K.Denot → StoreView = λ k. store_view (g.K.Keeper.contents k) (g.K.Keeper.parts k) (g.K.Keeper.failing k) (g.K.Keeper.faults k) in
     subst (λ (n : ℕ). c.args.repo < n) (sym (same_count tells (λ given d. transfers given c.args.repo (shares_logs given c.args.repo d)) c.args.running.now c.share_and_transfer.new.running c.requires.driven c.in_ok-share_and_transfer.ensures.ok)) c.requires.there
 
 pub drop_and_share-requires-clause-driven : goal.drop_and_share-requires-clause-driven
-drop_and_share-requires-clause-driven g c = λ κs.
+drop_and_share-requires-clause-driven g c = λ κs lives.
     let tells : g.row.K.Denot → StoreView = λ k. store_view (g.K.Keeper.contents k) (g.K.Keeper.parts k) (g.K.Keeper.failing k) (g.K.Keeper.faults k) in
     driven_on tells most_lines most_lines (λ given d. transfers given c.args.repo (shares_logs given c.args.repo d)) c.args.running.now c.share_and_transfer.new.running (λ given d few. transfers_few most_lines given c.args.repo (shares_logs given c.args.repo d) (shares_few most_lines given c.args.repo d few)) c.requires.driven c.in_ok-share_and_transfer.ensures.ok
 

@@ -6,7 +6,7 @@ use Rattle.fleet_entries.specs.AtDriver.{IsDrivenWithin}
 use Rattle.fleet_run.proofs.fleet.Fleet.line.Goals as goal
 
 pub do_and_mark-requires-clause-driven : goal.do_and_mark-requires-clause-driven
-do_and_mark-requires-clause-driven g c = λ κs.
+do_and_mark-requires-clause-driven g c = λ κs lives.
     let tells : g.row.K.Denot → StoreView = λ k. store_view (g.K.Keeper.contents k) (g.K.Keeper.parts k) (g.K.Keeper.failing k) (g.K.Keeper.faults k) in
     subst (λ (f : FleetView g.row.K.Denot). IsDrivenWithin tells (length f.run.marks) f) (sym c.self.view_is) c.requires.driven
 
