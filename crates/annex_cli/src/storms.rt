@@ -1,7 +1,7 @@
 //! What is due for a storm.
 
 ghost use Rattle.std.specs.Prelude.{IfOk, ◌≡◌, ◌≤◌, None, length};
-ghost use Rattle.script_lang.specs.Script.{reading, Commands};
+ghost use Rattle.script_lang.specs.Script.{reading, Commands, IsFault};
 ghost use Rattle.driver_script.specs.Lines.{first_unbuilt};
 ghost use Rattle.storm_script.specs.Storm.{storm_text};
 ghost use Rattle.script_answers.specs.Storms.{IsStormAnswer};
@@ -39,11 +39,26 @@ fn text_due<R: Threads + Sync>(
     }
     match Script::parse(alloc, bytes) {
         Ok(script) => script_due(rt, alloc, storm, bytes, &script),
-        Err(ScriptFault::BadLine { line, byte }) => complaint_due(alloc, line, byte),
-        Err(ScriptFault::TooMuch { quantity }) => {
-            limit_due(alloc, quantity.name(), quantity.limit())
-        }
-        Err(ScriptFault::NoMemory) => Err(NoMemory),
+        Err(fault) => fault_due(alloc, storm, bytes, fault),
+    }
+}
+
+/// What is due for a storm whose text has this fault.
+fn fault_due(
+    alloc: Global,
+    storm: Storm,
+    _bytes: &[u8],
+    fault: ScriptFault,
+) -> Result<Due, NoMemory>
+    requires text { _bytes.now ≡ storm_text storm.number storm.jobs }
+    requires short { length _bytes.now ≤ script_limit }
+    requires fault { IsFault fault (reading _bytes.now) }
+    ensures { IfOk result (λ d. IsStormAnswer storm.number storm.jobs d.status d.text.items) }
+{
+    match fault {
+        ScriptFault::BadLine { line, byte } => complaint_due(alloc, line, byte),
+        ScriptFault::TooMuch { quantity } => limit_due(alloc, quantity.name(), quantity.limit()),
+        ScriptFault::NoMemory => Err(NoMemory),
     }
 }
 

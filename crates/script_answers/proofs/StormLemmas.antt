@@ -1,9 +1,12 @@
 -- What is answered to a storm.
-use Rattle.std.proofs.Common.{◌≡◌, ◌⊎◌, ℕ, Bool, true, false, List, Result, Ok, Err, IfOk, inr, refl, sym, ap, ◌∙◌, subst}
+use Rattle.std.proofs.Common.{◌≡◌, ◌≤◌, ◌⊎◌, ℕ, Bool, true, false, List, length, Option, Result, Ok, Err, IfOk, inl, inr, refl, sym, ap, ◌∙◌, subst}
+use Rattle.std.specs.Io.KnownBytes.{append_known}
 use Rattle.run_data.specs.Histories.{most_entries}
 use Rattle.run_data.specs.declared.run.Run.{Run}
 use Rattle.script_commands.specs.declared.command.Command.{Command}
-use Rattle.script_lang.specs.Script.{reading, Commands}
+use Rattle.script_forms.specs.declared.fault.Quantity.{Quantity}
+use Rattle.script_lang.specs.Limits.{limit_of, quantity_name}
+use Rattle.script_lang.specs.Script.{reading, Commands, BadLine, PastLimit}
 use Rattle.driver_model.specs.Limits.{limited_run}
 use Rattle.driver_script.specs.Inputs.{driver_input_of}
 use Rattle.driver_script.specs.Script.{IsScript}
@@ -12,10 +15,11 @@ use Rattle.storm_script.specs.Storm.{storm_text}
 use Rattle.storm_line.specs.Line.{storm_line}
 use Rattle.script_answers.specs.declared.due.Due.{Due}
 use Rattle.script_answers.specs.declared.status.Status.{Status}
-use Rattle.script_answers.specs.declared.status.Status.TheVariants.{Done, Script, Limit}
+use Rattle.script_answers.specs.declared.status.Status.TheVariants.{Done, Usage, Script, ReadFault, WriteFault, NoMemory, Limit}
 use Rattle.script_answers.specs.Runs.{IsRunOf}
-use Rattle.script_answers.specs.Storms.{IsStormAnswer, IsStormDue, KeepsStormKeys, storm_run}
-use Rattle.script_answers.specs.Top.{HasGoodRun, IsComplaint, IsDue, IsMissing, entries_name, limit_text}
+use Rattle.script_answers.specs.Storms.{AnswersStorm, IsStormAnswer, IsStormDue, KeepsStormKeys, storm_run}
+use Rattle.script_answers.specs.Top.{HasGoodRun, IsComplaint, IsDue, IsMissing, IsPast, entries_name, limit_text, place_text}
+use Rattle.script_answers.specs.Whole.{script_limit}
 use Rattle.script_answers.proofs.DueLemmas.{HaveOneReading}
 use Rattle.script_answers.proofs.GoodLemmas.{Laws, cut_is, good_run, run_is, script_is}
 
@@ -32,6 +36,28 @@ limit_answers number jobs text due = record { due = due; good = λ e. absurd cc;
 
 pub place_answers : (number jobs : ℕ) (text : List ℕ) → IsStormDue number jobs Script text → IsStormAnswer number jobs Script text
 place_answers number jobs text due = record { due = due; good = λ e. absurd cc; kept = λ e. absurd cc }
+
+-- a bad line
+pub complaint_answers : (number jobs : ℕ) (bytes : List ℕ) (line byte : ℕ) → bytes ≡ storm_text number jobs → length bytes ≤ script_limit → reading bytes ≡ BadLine line byte → IsStormAnswer number jobs Script (place_text line byte)
+complaint_answers number jobs bytes line byte text short bad =
+    place_answers number jobs (place_text line byte)
+    (inl (subst (λ (b : List ℕ). IsComplaint b (place_text line byte)) text (record { short = short; line = line; byte = byte; bad = bad; text_is = refl })))
+
+-- a limit that is passed
+pub past_answers : (number jobs : ℕ) (bytes : List ℕ) (quantity : Quantity) → bytes ≡ storm_text number jobs → length bytes ≤ script_limit → reading bytes ≡ PastLimit quantity → IsStormAnswer number jobs Limit (limit_text (quantity_name quantity) (limit_of quantity))
+past_answers number jobs bytes quantity text short past =
+    limit_answers number jobs (limit_text (quantity_name quantity) (limit_of quantity))
+    (inr (inl (subst (λ (b : List ℕ). IsPast b (limit_text (quantity_name quantity) (limit_of quantity))) text (record { short = short; quantity = quantity; past = past; text_is = refl }))))
+
+-- what is due was written whole
+pub answers_written : (number jobs : ℕ) (taken taken' : Option (List ℕ)) (status : Status) (text : List ℕ) → IsStormAnswer number jobs status text → taken' ≡ append_known taken text → AnswersStorm number jobs taken taken' status
+answers_written number jobs taken taken' Done text answer wrote = (text, answer, wrote)
+answers_written number jobs taken taken' Script text answer wrote = (text, answer, wrote)
+answers_written number jobs taken taken' Limit text answer wrote = (text, answer, wrote)
+answers_written number jobs taken taken' Usage text answer wrote = absurd answer.due
+answers_written number jobs taken taken' ReadFault text answer wrote = absurd answer.due
+answers_written number jobs taken taken' WriteFault text answer wrote = absurd answer.due
+answers_written number jobs taken taken' NoMemory text answer wrote = absurd answer.due
 
 -- what misses a part
 pub missing_answers : {E : Type 0} (r : Result Due E) (number jobs : ℕ) (bytes : List ℕ) → bytes ≡ storm_text number jobs → IfOk r (λ d. IsDue bytes d.status d.text.items)

@@ -1,5 +1,5 @@
 -- One line more, and after the last none is left.
-use Rattle.std.proofs.Common.{◌+◌, ◌<◌, ◌≤◌, true, [], List, ◌≡◌, length, drop, Err, sym, ap, ◌∙◌, subst, arith}
+use Rattle.std.proofs.Common.{rules, ◌+◌, ◌<◌, ◌≤◌, true, [], List, ◌≡◌, length, drop, Err, sym, ap, ◌∙◌, subst, arith}
 use Rattle.fleet_run.specs.Stored.{store_view}
 use Rattle.script_commands.specs.declared.command.Command.{Command}
 use Rattle.fleet_run.specs.declared.FleetStop.TheVariants.{Full}
@@ -14,7 +14,7 @@ loop-command-init g c =
     (done_at_first _ c.args.script.now c.scripts_are_built_or_not.ensures.each c.args.fleet.now c.requires.built c.requires.stand c.requires.stands c.requires.driven)
 
 pub line-requires : goal.line-requires
-line-requires g c = λ κs lives.
+line-requires g c =
     let all : List Command = c.lines-commands.result.now in
     let i = c.loop-command.command-index in
     let within : i < length all = omega arith in
@@ -22,7 +22,7 @@ line-requires g c = λ κs lives.
     let done = few_done _ all c.command-item.result (drop (i + 1) all) c.loop-command.fleet before in
     let same : length all ≡ length c.args.script.now = ap length c.lines-commands.ensures in
     let few = c.requires.few in
-    record { may = may_be_done _ all c.command-item.result (drop (i + 1) all) c.loop-command.fleet before; few = omega (arith, done, same, few); driven = before.driven }
+    (search rules, (may_be_done _ all c.command-item.result (drop (i + 1) all) c.loop-command.fleet before, (omega (arith, done, same, few), before.driven)))
 
 pub loop-command-preserved : goal.loop-command-preserved
 loop-command-preserved g c =
