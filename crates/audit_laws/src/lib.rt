@@ -3,4 +3,7 @@
 
 mod laws;
 
-pub use laws::{orders_are_kept_by_their_frames, orders_tell_their_evidence, removals_tell_their_evidence, removals_take_their_orders};
+pub use laws::{
+    orders_are_kept_by_their_frames, orders_tell_their_evidence, removals_take_their_orders,
+    removals_tell_their_evidence,
+};

@@ -1,5 +1,5 @@
 -- A record after a repository's copy, the claims of a drop and the count.
-use Rattle.std.proofs.Common.{◌≡◌, ℕ, ◌<◌, ◌^◌, Bool, List, Option, length, refl, sym, ap, subst, ◌∙◌, arith}
+use Rattle.std.proofs.Common.{◌≡◌, ℕ, ◌<◌, ◌^◌, Bool, List, Option, length, sym, ap, subst, ◌∙◌, arith}
 use Rattle.std.specs.Prelude.{◌==◌, ◌||◌, count_by, if◌then◌else◌}
 use Rattle.run_data.specs.declared.job.Proof.{Proof}
 use Rattle.step_judging.specs.Audits.{with_count}

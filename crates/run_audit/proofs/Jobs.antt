@@ -1,29 +1,26 @@
 -- What the state of a run tells of a job of one of its repositories.
-use Rattle.std.proofs.Common.{◌≡◌, ℕ, zero, suc, ◌+◌, ◌<◌, ◌≤◌, ◌^◌, Bool, true, List, [], ◌∷◌, length, Option, Some, None, refl, sym, ap, subst, ◌∙◌, arith}
+use Rattle.std.proofs.Common.{◌≡◌, ℕ, zero, suc, ◌+◌, ◌<◌, ◌≤◌, ◌^◌, Bool, List, [], ◌∷◌, length, Option, Some, None, refl, sym, ap, subst, ◌∙◌, arith}
 use Rattle.std.specs.Prelude.{◌==◌, find, option_map, reverse, slice_get}
 use Rattle.std.proofs.lemmas.Bool.{eqb-true}
-use Rattle.annex_base.specs.Lists.{Each, Member}
+use Rattle.annex_base.specs.Lists.{Each}
 use Rattle.annex_base.proofs.Lists.{Each-member, find_member}
 use Rattle.node_model.specs.Jobs as jobs
-use Rattle.node_model.specs.After.{first_state}
-use Rattle.node_model.specs.Knows.{proof_by, reading}
 use Rattle.node_model.specs.SetUp.{SetUp}
 use Rattle.node_model.specs.State.{State}
 use Rattle.run_data.specs.declared.job.Proof.{Proof}
 use Rattle.run_data.specs.declared.run.Run.{Run}
 use Rattle.run_model.specs.Run.{set_up}
 use Rattle.state_reads.specs.Reads.{IsOnly}
-use Rattle.step_judging.specs.Carried.{judge_of}
 use Rattle.step_makes.specs.Numbers.{AreAlone}
 use Rattle.step_state.specs.States.{IsStateOf, made_of}
 use Rattle.step_state.specs.declared.state.RepoState.{RepoState}
 use Rattle.step_rules.proofs.Alone.{StatesAgree, works_alone}
-use Rattle.step_rules.specs.Members.{IsBounded, IsMemberOf, paths_at}
+use Rattle.step_rules.specs.Members.{IsBounded, paths_at}
 use Rattle.step_rules.specs.States.{IsAfter, IsCarried, job_paths_at, paths_in, repo_at, taken_by}
 use Rattle.step_rules.specs.declared.member.Member as members
 use Rattle.step_rules.specs.declared.run_state.RunState.{RunState}
 use Rattle.audit_laws.specs.Proofs.{carried_state, proof_after, proof_in}
-use Rattle.run_audit.specs.Audited.{IsAuditing, IsAuditorOf}
+use Rattle.run_audit.specs.Audited.{IsAuditing}
 use Rattle.run_audit.specs.declared.auditor.Auditor.{Auditor}
 
 pub found_only : (ws : List jobs.Work) (p : jobs.Work → Bool) (w : jobs.Work) → AreAlone ws → find p ws ≡ Some w → IsOnly ws w

@@ -1,7 +1,7 @@
 -- What is kept of the orders goes along the entries.
-use Rattle.std.proofs.Common.{◌≡◌, ℕ, zero, suc, ◌+◌, ◌<◌, Bool, true, false, List, [], ◌∷◌, ◌++◌, length, Option, Some, None, refl, sym, ap, subst, ◌∙◌, ◌⊎◌, inl, inr, arith}
+use Rattle.std.proofs.Common.{◌≡◌, ℕ, zero, suc, ◌+◌, ◌<◌, Bool, true, false, List, [], ◌∷◌, ◌++◌, length, Option, Some, refl, sym, ap, subst, ◌∙◌, ◌⊎◌, inl, inr, arith}
 use Rattle.std.specs.Prelude.{◌==◌, ◌&&◌, filter, if◌then◌else◌, map, slice_get}
-use Rattle.std.proofs.lemmas.Bool.{and_parts, eqb-true, true≢false}
+use Rattle.std.proofs.lemmas.Bool.{and_parts, eqb-true}
 use Rattle.std.proofs.lemmas.Option.{same_Some, slice_get_within}
 use Rattle.annex_base.specs.Bools.{same_bool}
 use Rattle.annex_base.proofs.Conditions.{eqb_refl}
@@ -21,7 +21,6 @@ use Rattle.annex_base.specs.Lists.{Member}
 use Rattle.audit_laws.specs.Proofs.{IsOrderFrame, order_proof, way_up}
 use Rattle.run_audit.specs.Orders.{AreOrdersOf, IsKeptOf, after_order, name_on, name_sent, proof_at, same_name}
 use Rattle.run_audit.specs.declared.orders.OrderName.{OrderName}
-use Rattle.run_audit.specs.declared.orders.Ordered.{Ordered}
 use Rattle.run_audit.specs.declared.orders.Orders.{Orders}
 
 -- ---- lists

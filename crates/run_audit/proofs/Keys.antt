@@ -1,5 +1,5 @@
 -- The keys that are told are those with a removal, in order, with what the audit says of each.
-use Rattle.std.proofs.Common.{◌≡◌, ◌≢◌, ℕ, Bool, true, false, cond, List, [], ◌∷◌, ◌++◌, map, Option, Some, None, Result, Ok, Err, refl, sym, ap, subst, ◌∙◌, ◌⊎◌, inl, inr, arith}
+use Rattle.std.proofs.Common.{◌≡◌, ◌≢◌, ℕ, Bool, true, false, cond, List, [], ◌∷◌, ◌++◌, map, Option, Some, None, Result, Ok, Err, refl, sym, ap, subst, ◌∙◌, inl, inr, arith}
 use Rattle.std.specs.Prelude.{IfOk, OnOk, bytes_eq, length, reverse}
 use Rattle.std.specs.declared.alloc.Global.{Global}
 use Rattle.std.specs.declared.vec.Vec.{Vec}
@@ -18,8 +18,8 @@ use Rattle.run_model.specs.Safety.{Removal, least_need, removals, smaller}
 use Rattle.step_judging.specs.Audits as audits
 use Rattle.step_judging.specs.Audits.{IsAudit, audit}
 use Rattle.run_audit.specs.Audited.{AreKeysOf, IsAuditorOf, IsKeyOf, audit_of}
-use Rattle.run_audit.specs.Changes.{record_at, record_in, told_by, told_key, told_of}
-use Rattle.run_audit.specs.Records.{IsRecordOf, audit_at, audit_in}
+use Rattle.run_audit.specs.Changes.{record_in, told_by, told_key, told_of}
+use Rattle.run_audit.specs.Records.{audit_at, audit_in}
 use Rattle.run_audit.specs.declared.auditor.Auditor.{Auditor}
 use Rattle.run_audit.specs.declared.key_audit.KeyAudit as told
 use Rattle.run_audit.specs.declared.record.KeyRecord.{KeyRecord}
@@ -48,14 +48,14 @@ looked_up (e ∷ entries) order key x (inr m) =
 -- and what is looked up is an entry
 pub entry_of : (entries : Entries) (key : List ℕ) (x : KeyRecord) → record_in entries key ≡ Some x → Member (key, x) entries
 entry_of [] key x is = absurd (cc)
-entry_of (e ∷ entries) key x is = go (is_at (text_cmp key) e.0) refl is
+entry_of (e ∷ entries) key x is = go (λ has. entry_of entries key x has) (is_at (text_cmp key) e.0) refl is
   where
-    go : (b : Bool) → is_at (text_cmp key) e.0 ≡ b → cond b (Some e.1) (record_in entries key) ≡ Some x → Member (key, x) (e ∷ entries)
-    go true same has =
+    go : (record_in entries key ≡ Some x → Member (key, x) entries) → (b : Bool) → is_at (text_cmp key) e.0 ≡ b → cond b (Some e.1) (record_in entries key) ≡ Some x → Member (key, x) (e ∷ entries)
+    go more true same has =
         let name : key ≡ e.0 = bytes_eq-true key e.0 (sym (is_eq-slice_cmp key e.0) ∙ same) in
         let value : e.1 ≡ x = same_Some e.1 x has in
         inl (λ i. (name i, sym value i))
-    go false off has = inr (entry_of entries key x has)
+    go more false off has = inr (more has)
 
 -- ---- what is told
 
@@ -119,16 +119,13 @@ told_among entries key m =
 
 told_order : (entries : Entries) → IsInOrder (keys_of entries) → IsInOrder (map (λ t. t.key) (told_of entries))
 told_order [] order = order_nil
-told_order (e ∷ entries) order = go e.1.least e.1.need
+told_order (e ∷ entries) order = go (told_order entries (order_tail e.0 (keys_of entries) order)) e.1.least e.1.need
   where
-    rest : IsInOrder (map (λ t. t.key) (told_of entries))
-    rest = told_order entries (order_tail e.0 (keys_of entries) order)
-
-    go : (least need : Option ℕ) → IsInOrder (map (λ t. t.key) (told_by e.0 e.1.removals least need ++ told_of entries))
-    go (Some n) (Some k) = order_cons e.0 (map (λ t. t.key) (told_of entries))
+    go : IsInOrder (map (λ t. t.key) (told_of entries)) → (least need : Option ℕ) → IsInOrder (map (λ t. t.key) (told_by e.0 e.1.removals least need ++ told_of entries))
+    go rest (Some n) (Some k) = order_cons e.0 (map (λ t. t.key) (told_of entries))
         (BeforeAll-from_members e.0 (map (λ t. t.key) (told_of entries)) (λ key m. BeforeAll-member e.0 key (keys_of entries) (order_head e.0 (keys_of entries) order) (told_among entries key m))) rest
-    go (Some n) None = rest
-    go None need = rest
+    go rest (Some n) None = rest
+    go rest None need = rest
 
 -- ---- the keys of a run
 

@@ -1,5 +1,5 @@
 -- The record of a key after an entry is that of the entries with it.
-use Rattle.std.proofs.Common.{◌≡◌, ℕ, ◌+◌, ◌<◌, ◌≤◌, Bool, true, false, List, [], ◌∷◌, length, Option, Some, None, refl, sym, ap, subst, ◌∙◌, ◌⊎◌, inl, inr, arith}
+use Rattle.std.proofs.Common.{◌≡◌, ℕ, ◌<◌, ◌≤◌, Bool, true, false, List, [], ◌∷◌, length, Option, Some, None, refl, sym, ap, subst, ◌∙◌, ◌⊎◌, inl, inr, arith}
 use Rattle.std.specs.Prelude.{◌==◌, ◌&&◌, ◌||◌, count_by, not, if◌then◌else◌, option_map, bytes_eq}
 use Rattle.std.specs.List.{list_any, range_with_len}
 use Rattle.run_data.specs.declared.entry.By.{By}
@@ -10,14 +10,13 @@ use Rattle.run_data.specs.declared.job.Proof.{Proof}
 use Rattle.run_data.specs.declared.run.RepoView.{RepoView}
 use Rattle.node_model.specs.Evidence.{is_trusted}
 use Rattle.node_model.specs.Rows.{option_is, present_after}
-use Rattle.run_model.specs.Past.{is_of, present}
+use Rattle.run_model.specs.Past.{present}
 use Rattle.run_model.specs.Safety.{Removal, add_removal, claim, count, removal, removal_by, removals, trusts}
 use Rattle.step_judging.specs.Audits.{KeyAudit, audit, with_count, with_removal}
 use Rattle.audit_laws.specs.Proofs.{removal_proof, removed_proof}
-use Rattle.run_audit.specs.Changes.{IsAdded, IsChanged, IsChangedAt, IsChangedIf, IsNew, IsNoted, claims_of, removed_by}
-use Rattle.run_audit.specs.Holders.{holder_at, holder_of, is_held, no_holder}
-use Rattle.run_audit.specs.Records.{IsRecordOf, audit_at, audit_in, held_at}
-use Rattle.run_audit.specs.declared.holders.Holder.{Holder}
+use Rattle.run_audit.specs.Changes.{IsAdded, IsChanged, IsChangedAt, IsChangedIf, IsNoted, claims_of, removed_by}
+use Rattle.run_audit.specs.Holders.{holder_at, holder_of, is_held}
+use Rattle.run_audit.specs.Records.{IsRecordOf, audit_in}
 use Rattle.run_audit.specs.declared.record.KeyRecord.{KeyRecord}
 use Rattle.run_audit.proofs.Counting.{any_range, counted, settled}
 

@@ -1,5 +1,5 @@
 -- A key gets a place among the records, and its record there changes.
-use Rattle.std.proofs.Common.{◌≡◌, ℕ, Bool, true, false, cond, List, [], ◌∷◌, Option, Some, None, Result, Ok, Err, refl, sym, ap, subst, ◌∙◌, ◌⊎◌, inl, inr}
+use Rattle.std.proofs.Common.{◌≡◌, ℕ, Bool, true, false, cond, List, Option, Some, None, Result, Ok, Err, refl, sym, ap, subst, ◌∙◌, ◌⊎◌, inl, inr}
 use Rattle.std.specs.Prelude.{OnOk, bytes_eq}
 use Rattle.std.proofs.lemmas.Map.Text.{is_eq-slice_cmp}
 use Rattle.std.proofs.lemmas.Option.{same_Some}
@@ -10,7 +10,7 @@ use Rattle.run_data.specs.declared.entry.By.{By}
 use Rattle.run_data.specs.declared.entry.EntryKind.{EntryKind}
 use Rattle.run_data.specs.declared.entry.EntryKind.TheVariants.{Gain, Gone}
 use Rattle.run_data.specs.declared.job.Proof.{Proof}
-use Rattle.run_audit.specs.Changes.{AreNoted, HasPlace, HasPlaceFor, IsAdded, IsChangedAt, IsChangedIf, IsNew, IsNoted, StayEntries, StayRecords, changed_key, record_at, record_in}
+use Rattle.run_audit.specs.Changes.{AreNoted, HasPlace, HasPlaceFor, IsAdded, IsChangedAt, IsChangedIf, IsNew, StayEntries, changed_key, record_at, record_in}
 use Rattle.run_audit.specs.declared.record.KeyRecord.{KeyRecord}
 use Rattle.run_audit.specs.declared.records.Records.{Records}
 

@@ -1,6 +1,6 @@
 -- The auditor after an entry is that of the run with it.
-use Rattle.std.proofs.Common.{◌≡◌, ℕ, zero, suc, false, ◌+◌, ◌<◌, ◌≤◌, ◌^◌, List, [], ◌∷◌, ◌++◌, length, Option, Some, None, Result, Ok, Err, IfErr, refl, sym, ap, subst, ◌∙◌, ◌⊎◌, inl, inr, arith}
-use Rattle.std.specs.Prelude.{reverse, slice_get, take, OnErr}
+use Rattle.std.proofs.Common.{◌≡◌, ℕ, zero, suc, false, ◌+◌, ◌<◌, ◌≤◌, ◌^◌, List, [], ◌∷◌, ◌++◌, length, Option, Some, None, Result, Ok, Err, IfErr, refl, sym, ap, subst, ◌∙◌, arith}
+use Rattle.std.specs.Prelude.{reverse, slice_get, OnErr}
 use Rattle.std.specs.Result.{IsErrAnd}
 use Rattle.std.specs.Map.{lookup}
 use Rattle.std.proofs.lemmas.List.{reverse-append, length-reverse}
@@ -15,7 +15,7 @@ use Rattle.run_model.specs.Run.{IsRun, RunStep, set_up}
 use Rattle.step_judging.specs.Audits as audits
 use Rattle.step_judging.specs.Rules.{broken_rule}
 use Rattle.step_rules.specs.Runs.{start_of, with_entry}
-use Rattle.step_rules.specs.States.{IsAfter, IsCarried, taken_by}
+use Rattle.step_rules.specs.States.{IsAfter, taken_by}
 use Rattle.step_rules.specs.declared.wanted.Wanted.{Wanted}
 use Rattle.run_audit.specs.Audited.{IsAuditing, IsAuditorOf}
 use Rattle.run_audit.specs.Changes.{AreNoted, HasFew, StayRecords, record_at}
@@ -26,7 +26,6 @@ use Rattle.run_audit.specs.declared.auditor.Auditor.{Auditor}
 use Rattle.run_audit.specs.declared.orders.OrderName.{OrderName}
 use Rattle.run_audit.specs.declared.orders.Ordered.{Ordered}
 use Rattle.run_audit.specs.declared.orders.Orders.{Orders}
-use Rattle.run_audit.specs.declared.record.KeyRecord.{KeyRecord}
 use Rattle.run_audit.specs.declared.records.Records.{Records}
 use Rattle.run_audit.proofs.Noted.{added, noted, removals_few, waited}
 use Rattle.run_audit.proofs.Told.{DropLaws, orders_after, proof_told}

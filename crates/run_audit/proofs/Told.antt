@@ -1,5 +1,5 @@
 -- What an auditor tells of an entry that may come is what the entry's drop knew.
-use Rattle.std.proofs.Common.{◌≡◌, ℕ, ◌+◌, Bool, true, false, List, [], ◌∷◌, Option, Some, None, refl, sym, ap, subst, ◌∙◌}
+use Rattle.std.proofs.Common.{◌≡◌, ℕ, ◌+◌, Bool, true, false, List, ◌∷◌, Option, Some, None, refl, sym, ap, subst, ◌∙◌}
 use Rattle.std.specs.Prelude.{bytes_eq, if◌then◌else◌, option_map, reverse, slice_get}
 use Rattle.annex_base.proofs.Conditions.{bytes_eq-true}
 use Rattle.drop_proof.specs.declared.rule.Need.{Need}
@@ -8,12 +8,10 @@ use Rattle.run_data.specs.declared.entry.By.TheVariants.{Script, Job as by_job, 
 use Rattle.run_data.specs.declared.entry.Entry.{Entry}
 use Rattle.run_data.specs.declared.entry.EntryKind.{EntryKind}
 use Rattle.run_data.specs.declared.entry.EntryKind.TheVariants.{Gone, Order}
-use Rattle.run_data.specs.declared.entry.FrameView.{FrameView}
-use Rattle.run_data.specs.declared.job.Proof.{Proof}
 use Rattle.run_data.specs.declared.run.Run.{Run}
-use Rattle.run_model.specs.Frames.{Way, frames_sent, taken_count, way_of}
+use Rattle.run_model.specs.Frames.{taken_count, way_of}
 use Rattle.run_model.specs.Run.{IsRun, RunStep, set_up}
-use Rattle.run_model.specs.Safety.{removal, removal_by}
+use Rattle.run_model.specs.Safety.{removal_by}
 use Rattle.audit_laws.specs.Proofs.{IsOrderFrame, TakesItsOrder, order_proof, proof_after, removal_proof, removed_proof}
 use Rattle.run_audit.specs.Orders.{AreOrdersOf, IsKeptOf, after_order, name_on, name_sent, name_taken, proof_at}
 use Rattle.run_audit.specs.Telling.{ordered_by, ordered_on, removed_by, taken_proof}

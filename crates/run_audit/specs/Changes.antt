@@ -10,7 +10,7 @@ use Rattle.run_data.specs.declared.job.Proof.{Proof}
 use Rattle.run_model.specs.Safety.{smaller}
 use Rattle.step_judging.specs.Audits.{KeyAudit, new_audit, with_count}
 use Rattle.run_audit.specs.Holders.{AreNone, holder_at, is_held}
-use Rattle.run_audit.specs.Records.{audit_at, audit_in}
+use Rattle.run_audit.specs.Records.{audit_in}
 use Rattle.run_audit.specs.declared.holders.Holder.{Holder}
 use Rattle.run_audit.specs.declared.key_audit.KeyAudit as told
 use Rattle.run_audit.specs.declared.record.KeyRecord.{KeyRecord}

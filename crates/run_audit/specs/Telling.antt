@@ -1,5 +1,5 @@
 -- What an auditor tells of an entry before it takes it; for private contracts (own).
-use Rattle.std.specs.Prelude.{ℕ, List, slice_get, Option, Some, None, option_map}
+use Rattle.std.specs.Prelude.{ℕ, slice_get, Option, Some, None, option_map}
 use Rattle.audit_laws.specs.Proofs.{proof_after}
 use Rattle.run_data.specs.declared.entry.By.{By}
 use Rattle.run_data.specs.declared.entry.By.TheVariants.{Job as by_job, Peer, Script}

@@ -211,7 +211,7 @@ fn ordered_as(name: OrderName, proof: Option<Proof>) -> Option<Ordered>
 }
 
 fn copy_of(proof: Option<&Proof>) -> Result<Option<Proof>, NoMemory>
-    ensures { IfOk result (λ copy. copy ≡ option_copied proof) }
+    ensures { IfOk result (λ copy. copy ≡ option_copied proof.entry) }
 {
     match proof {
         Some(proof) => Ok(Some(copy(proof)?)),

@@ -3,7 +3,6 @@ use Rattle.std.proofs.Common.{sym, ap, subst, find, List, None, Some, Option, �
 use Rattle.std.specs.Option.{option_copied, option_map}
 use Rattle.node_model.specs.Jobs as jobs
 use Rattle.node_model.specs.Knows.{proof_by, reading}
-use Rattle.node_model.specs.State.{State}
 use Rattle.state_jobs.specs.Works.{work_of}
 use Rattle.state_jobs.specs.declared.work.Work.{Work}
 use Rattle.state_reads.specs.Reads.{IsOnly}
@@ -13,8 +12,8 @@ use Rattle.step_state.specs.declared.state.RepoState.{RepoState}
 use Rattle.run_audit.proofs.Jobs.{found_only}
 use Rattle.run_audit.proofs.evidence.proof_of_job.Goals as goal
 
-pub returns-in_ok-proof : goal.returns-in_ok-proof
-returns-in_ok-proof c = λ s st repos is alone paths.
+pub returns-in_ok-proof-in-Some : goal.returns-in_ok-proof-in-Some
+returns-in_ok-proof-in-Some c = λ s st repos is alone paths.
     let x = c.new-turn.result in
     let given = c.new-turn.ensures.given in
     let p : jobs.Work → Bool = λ w. w.number == c.args.job in
@@ -29,7 +28,7 @@ returns-in_ok-proof c = λ s st repos is alone paths.
     ap (λ (ws : List jobs.Work). find p ws) (c.jobs.ensures s st is).works ∙ sym c.job.ensures ∙ ap (λ (o : Option Work). option_map work_of o) (ap option_copied c.in-Some.is) in
     let only = subst (λ (z : Work). IsOnly st.works (work_of z)) (sym given.work) (found_only st.works p w alone seen) in
     let had = subst (λ (z : Work). s.paths (work_of z).number ≡ c.args.paths.now) (sym given.work) (paths w seen) in
-    ap Some (c.in_ok-proof.ensures s st its only had ∙ (λ i. proof_by (reading s st (work_of (given.work i))) (work_of (given.work i))))
+    ap Some (c.in_ok-proof-in-Some.ensures s st its only had ∙ (λ i. proof_by (reading s st (work_of (given.work i))) (work_of (given.work i))))
     ∙ ap (option_map (λ v. proof_by (reading s st v) v)) (sym seen)
 
 pub returns-in-None : goal.returns-in-None

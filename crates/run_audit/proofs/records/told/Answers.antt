@@ -1,5 +1,5 @@
 -- What the proof of `records::told` needs beside the tactics.
-use Rattle.std.proofs.Common.{◌≡◌, ◌++◌, append-nil, append_assoc, ap, sym, ◌∙◌}
+use Rattle.std.proofs.Common.{◌++◌, append-nil, append_assoc, ap, sym, ◌∙◌}
 use Rattle.run_audit.specs.Changes.{told_key, told_of}
 use Rattle.run_audit.proofs.records.told.Goals as goal
 

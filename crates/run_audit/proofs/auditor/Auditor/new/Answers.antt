@@ -1,5 +1,5 @@
 -- What the proof of `auditor::Auditor::new` needs beside the tactics.
-use Rattle.std.proofs.Common.{ap, length, refl, sym, ◌∙◌}
+use Rattle.std.proofs.Common.{ap, length, sym, ◌∙◌}
 use Rattle.step_rules.specs.Runs.{start_of}
 use Rattle.run_audit.specs.declared.auditor.Auditor.{Auditor}
 use Rattle.run_audit.proofs.Taken.{begins}

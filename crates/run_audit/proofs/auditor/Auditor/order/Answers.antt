@@ -17,7 +17,7 @@ returns-in-Order c =
     let e = c.args.entry.now in
     let r = c.args.repo in
     IfOk-weaker c.order_of.result
-    (λ (o : Option Ordered). (run : Run) → IsAuditorOf x run → o ≡ ordered_on r (slice_get e.sent 0) (proof_after run r c.in-Order.job.now))
+    (λ (o : Option Ordered). (run : Run) → IsAuditorOf x run → o ≡ ordered_on r (slice_get e.sent 0) (proof_after run r c.in-Order.job))
     (λ (o : Option Ordered). (run : Run) → IsAuditorOf x run → o ≡ ordered_by run r e e.kind)
     (λ o is run of. is run of ∙ ap (λ (k : EntryKind). ordered_by run r e k) (sym c.in-Order.is))
     c.order_of.ensures

@@ -15,7 +15,7 @@ returns-in-Gone c =
     let e = c.args.entry.now in
     let r = c.args.repo in
     IfOk-weaker c.proof_by.result
-    (λ (p : Option Proof). (run : Run) → IsAuditorOf x run → p ≡ removed_for run x.orders r e.taken c.in-Gone.by.now)
+    (λ (p : Option Proof). (run : Run) → IsAuditorOf x run → p ≡ removed_for run x.orders r e.taken c.in-Gone.by)
     (λ (p : Option Proof). (run : Run) → IsAuditorOf x run → p ≡ removed_by run x.orders r e e.kind)
     (λ p is run of. is run of ∙ ap (λ (k : EntryKind). removed_by run x.orders r e k) (sym c.in-Gone.is))
     c.proof_by.ensures

@@ -14,7 +14,7 @@ returns-in-Job c =
     let x = c.args.self.now in
     let e = c.args.entry.now in
     let r = c.args.repo in
-    IfOk-weaker c.proof_of.result (λ (p : Option Proof). (run : Run) → IsAuditorOf x run → p ≡ proof_after run r c.in-Job.job.now)
+    IfOk-weaker c.proof_of.result (λ (p : Option Proof). (run : Run) → IsAuditorOf x run → p ≡ proof_after run r c.in-Job.job)
     (λ (p : Option Proof). (run : Run) → IsAuditorOf x run → p ≡ removed_for run x.orders r e.taken c.args.by.now)
     (λ p is run of. is run of ∙ ap (λ (b : By). removed_for run x.orders r e.taken b) (sym c.in-Job.is))
     c.proof_of.ensures

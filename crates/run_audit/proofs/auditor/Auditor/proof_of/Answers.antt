@@ -1,5 +1,5 @@
 -- What the proof of `auditor::Auditor::proof_of` needs beside the tactics.
-use Rattle.std.proofs.Common.{◌≡◌, ◌==◌, Option, Some, None, List, find, ap, sym, subst, ◌∙◌}
+use Rattle.std.proofs.Common.{◌≡◌, ◌==◌, Option, Some, find, ap, sym, ◌∙◌}
 use Rattle.std.specs.Option.{option_copied}
 use Rattle.std.proofs.lemmas.Result.{IfOk-weaker}
 use Rattle.run_data.specs.declared.job.Proof.{Proof}
@@ -9,7 +9,6 @@ use Rattle.node_model.specs.SetUp.{SetUp}
 use Rattle.node_model.specs.State.{State}
 use Rattle.audit_laws.specs.Proofs.{proof_after, proof_in}
 use Rattle.step_makes.specs.Numbers.{AreAlone}
-use Rattle.step_rules.specs.States.{repo_at}
 use Rattle.step_state.specs.States.{IsStateOf}
 use Rattle.run_audit.specs.Audited.{IsAuditorOf}
 use Rattle.run_audit.proofs.Jobs.{few_made, many_repos, told_nowhere, told_there}

@@ -1,5 +1,5 @@
 -- What the proof of `holders::Holders::count` needs beside the tactics.
-use Rattle.std.proofs.Common.{◌<◌, ◌^◌, arith}
+use Rattle.std.proofs.Common.{arith}
 use Rattle.std.proofs.lemmas.List.Sums.{count_by-le-length}
 use Rattle.run_audit.specs.Holders.{is_held}
 use Rattle.run_audit.proofs.holders.Holders.count.Goals as goal

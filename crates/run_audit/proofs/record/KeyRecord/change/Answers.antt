@@ -1,5 +1,4 @@
 -- What the proof of `record::KeyRecord::change` needs beside the tactics.
-use Rattle.std.proofs.Common.{◌<◌, ◌^◌, subst, sym}
 use Rattle.run_audit.proofs.Changed.{changed, still_few}
 use Rattle.run_audit.proofs.record.KeyRecord.change.Goals as goal
 
