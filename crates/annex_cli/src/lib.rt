@@ -22,7 +22,7 @@ use annex_base::{Failed, Gate, Sink, Source};
 use driver_script::scripts_are_built_or_not;
 use due::due_text;
 pub use runs::run_script;
-use script_answers::{ReadStop, is_run, read_whole, write_whole};
+use script_answers::{ReadStop, SCRIPT_LIMIT, is_run, read_whole, write_whole};
 pub use script_answers::{
     Ran, Status, cut_script_runs_have_a_full_history, one_answer_is_due_for_every_text,
 };
@@ -88,7 +88,7 @@ fn run<S: Source, K: Sink>(alloc: Global, source: &mut S, sink: &mut K) -> Statu
     ensures read_failed { S.faults source.old < S.faults source.new → result ≡ Status.ReadFault }
     ensures write_failed { K.faults sink.old < K.faults sink.new → result ≡ Status.WriteFault }
 {
-    let bytes = match read_whole(alloc, source) {
+    let bytes = match read_whole(alloc, source, SCRIPT_LIMIT) {
         Ok(bytes) => bytes,
         Err(ReadStop::Failed) => return Status::ReadFault,
         Err(ReadStop::NoMemory) => return Status::NoMemory,

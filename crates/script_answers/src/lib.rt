@@ -13,4 +13,4 @@ pub use laws::{cut_script_runs_have_a_full_history, one_answer_is_due_for_every_
 pub use ran::{ENTRY_LIMIT, Ran};
 pub use status::Status;
 pub use whole::{ReadStop, SCRIPT_LIMIT, read_whole, write_whole};
-pub use words::is_run;
+pub use words::{is_audit, is_run};
