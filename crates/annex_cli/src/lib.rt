@@ -24,7 +24,7 @@ use annex_base::{Failed, Gate, Sink, Source};
 use driver_script::scripts_are_built_or_not;
 use due::due_text;
 pub use runs::run_script;
-use script_answers::{ReadStop, Storm, is_run, read_whole, storm_of, write_whole};
+use script_answers::{ReadStop, SCRIPT_LIMIT, Storm, is_run, read_whole, storm_of, write_whole};
 pub use script_answers::{
     Ran, Status, cut_script_runs_have_a_full_history, one_answer_is_due_for_every_text,
 };
@@ -136,7 +136,7 @@ fn run<R: Threads + Sync, S: Source, K: Sink>(
     ensures read_failed { S.faults source.old < S.faults source.new → result ≡ Status.ReadFault }
     ensures write_failed { K.faults sink.old < K.faults sink.new → result ≡ Status.WriteFault }
 {
-    let bytes = match read_whole(alloc, source) {
+    let bytes = match read_whole(alloc, source, SCRIPT_LIMIT) {
         Ok(bytes) => bytes,
         Err(ReadStop::Failed) => return Status::ReadFault,
         Err(ReadStop::NoMemory) => return Status::NoMemory,

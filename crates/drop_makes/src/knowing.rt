@@ -91,7 +91,7 @@ impl<'a> Knowing<'a> {
     }
 
     /// Its evidence, as its outcome states it.
-    pub(crate) fn proof(&self, alloc: Global) -> Result<Proof, NoMemory>
+    pub fn proof(&self, alloc: Global) -> Result<Proof, NoMemory>
         ensures { IfOk result (λ p. p ≡ proof_by (reading_in self.now.turn.now self.now.logs.now) (work_of self.now.turn.now.work.now)) }
     {
         proof(alloc, self.turn.count(), self.logs.need(), &self.items)

@@ -15,7 +15,7 @@ use Rattle.driver_script.specs.Script.{IsScript, IsUnbuilt}
 use Rattle.report_text.specs.Report.{report}
 use Rattle.script_answers.specs.declared.due.Due.{Due}
 use Rattle.script_answers.specs.declared.status.Status.{Status}
-use Rattle.script_answers.specs.declared.status.Status.TheVariants.{Done, Usage, Script, ReadFault, WriteFault, NoMemory, Limit}
+use Rattle.script_answers.specs.declared.status.Status.TheVariants.{Done, Usage, Script, ReadFault, WriteFault, NoMemory, Limit, NotARun, Input}
 use Rattle.script_answers.specs.Whole.{IsRead, script_limit}
 use Rattle.script_answers.specs.Top.{IsReport, IsComplaint, IsCutReport, IsMissing, IsLong, IsPast, IsDue, IsDueRead, MeetsEntries, Writes, AnswersRun, EndsWith, entries_name, limit_text, place_text}
 
@@ -128,10 +128,14 @@ due_once x bytes Usage s' t t' d d' = absurd d
 due_once x bytes ReadFault s' t t' d d' = absurd d
 due_once x bytes WriteFault s' t t' d d' = absurd d
 due_once x bytes NoMemory s' t t' d d' = absurd d
+due_once x bytes NotARun s' t t' d d' = absurd d
+due_once x bytes Input s' t t' d d' = absurd d
 due_once x bytes s Usage t t' d d' = absurd d'
 due_once x bytes s ReadFault t t' d d' = absurd d'
 due_once x bytes s WriteFault t t' d d' = absurd d'
 due_once x bytes s NoMemory t t' d d' = absurd d'
+due_once x bytes s NotARun t t' d d' = absurd d'
+due_once x bytes s Input t t' d d' = absurd d'
 
 -- past the limit, the limit is due
 long_text : List ℕ
@@ -149,25 +153,27 @@ due_long bytes Usage t long d = absurd d
 due_long bytes ReadFault t long d = absurd d
 due_long bytes WriteFault t long d = absurd d
 due_long bytes NoMemory t long d = absurd d
+due_long bytes NotARun t long d = absurd d
+due_long bytes Input t long d = absurd d
 
 some_is : (xs ys : List ℕ) → Some xs ≡ Some ys → xs ≡ ys
 some_is xs ys h = cc
 
 -- what was read of known bytes is all of them, or is past the limit as they are
-read_all_or_long : (bytes read : List ℕ) (new : Option (List ℕ)) → IsRead (Some bytes) new read → (read ≡ bytes) ⊎ ((script_limit < length read) × (script_limit < length bytes))
-read_all_or_long bytes read None r = let no : Some bytes ≡ None = r.front in absurd (cc)
-read_all_or_long bytes read (Some rest) r = go (cases_lt script_limit (length read))
+pub read_all_or_long : (limit : ℕ) (bytes read : List ℕ) (new : Option (List ℕ)) → IsRead limit (Some bytes) new read → (read ≡ bytes) ⊎ ((limit < length read) × (limit < length bytes))
+read_all_or_long limit bytes read None r = let no : Some bytes ≡ None = r.front in absurd (cc)
+read_all_or_long limit bytes read (Some rest) r = go (cases_lt limit (length read))
   where
     whole : bytes ≡ read ++ rest
     whole = some_is bytes (read ++ rest) r.front
 
-    go : (script_limit < length read) ⊎ (length read ≤ script_limit) → (read ≡ bytes) ⊎ ((script_limit < length read) × (script_limit < length bytes))
-    go (inl long) = inr (long, subst (λ n. script_limit < n) (sym (ap length whole ∙ length-append read rest)) (omega arith))
+    go : (limit < length read) ⊎ (length read ≤ limit) → (read ≡ bytes) ⊎ ((limit < length read) × (limit < length bytes))
+    go (inl long) = inr (long, subst (λ n. limit < n) (sym (ap length whole ∙ length-append read rest)) (omega arith))
     go (inr short) = inl (sym (whole ∙ ap (λ end. read ++ end) (r.whole short rest refl) ∙ append-nil read))
 
 -- what is due for what was read is due for what there was
 due_same : HaveOneReading → (bytes : List ℕ) (s s' : Status) (text : List ℕ) (left left' : Option (List ℕ)) (t : List ℕ) → left ≡ Some bytes → IsDue bytes s text → IsDueRead left left' s' t → IsOne s' s t text
-due_same x bytes s s' text left left' t known d r = go (read_all_or_long bytes r.bytes left' (subst (λ l. IsRead l left' r.bytes) known r.read))
+due_same x bytes s s' text left left' t known d r = go (read_all_or_long script_limit bytes r.bytes left' (subst (λ l. IsRead script_limit l left' r.bytes) known r.read))
   where
     go : (r.bytes ≡ bytes) ⊎ ((script_limit < length r.bytes) × (script_limit < length bytes)) → IsOne s' s t text
     go (inl same) = due_once x bytes s' s t text (subst (λ b. IsDue b s' t) same r.due) d
@@ -191,6 +197,8 @@ module _ (x : HaveOneReading) (bytes text : List ℕ) (s : Status) (left left' t
   due_answered ReadFault a r w = absurd (r refl)
   due_answered NoMemory a r w = inr (refl, a)
   due_answered Usage a r w = absurd a
+  due_answered NotARun a r w = absurd a
+  due_answered Input a r w = absurd a
 
 -- for a script whose run is whole its report is due
 pub due_report : (bytes : List ℕ) (script : List Command) → length bytes ≤ script_limit → IsScript bytes script → (limited_run (driver_input_of script) script).is_cut ≡ false → IsDue bytes Done (report script (limited_run (driver_input_of script) script).run)

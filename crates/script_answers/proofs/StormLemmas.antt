@@ -15,7 +15,7 @@ use Rattle.storm_script.specs.Storm.{storm_text}
 use Rattle.storm_line.specs.Line.{storm_line}
 use Rattle.script_answers.specs.declared.due.Due.{Due}
 use Rattle.script_answers.specs.declared.status.Status.{Status}
-use Rattle.script_answers.specs.declared.status.Status.TheVariants.{Done, Usage, Script, ReadFault, WriteFault, NoMemory, Limit}
+use Rattle.script_answers.specs.declared.status.Status.TheVariants.{Done, Usage, Script, ReadFault, WriteFault, NoMemory, Limit, NotARun, Input}
 use Rattle.script_answers.specs.Runs.{IsRunOf}
 use Rattle.script_answers.specs.Storms.{AnswersStorm, IsStormAnswer, IsStormDue, KeepsStormKeys, storm_run}
 use Rattle.script_answers.specs.Top.{HasGoodRun, IsComplaint, IsDue, IsMissing, IsPast, entries_name, limit_text, place_text}
@@ -58,6 +58,8 @@ answers_written number jobs taken taken' Usage text answer wrote = absurd answer
 answers_written number jobs taken taken' ReadFault text answer wrote = absurd answer.due
 answers_written number jobs taken taken' WriteFault text answer wrote = absurd answer.due
 answers_written number jobs taken taken' NoMemory text answer wrote = absurd answer.due
+answers_written number jobs taken taken' NotARun text answer wrote = absurd answer.due
+answers_written number jobs taken taken' Input text answer wrote = absurd answer.due
 
 -- what misses a part
 pub missing_answers : {E : Type 0} (r : Result Due E) (number jobs : ℕ) (bytes : List ℕ) → bytes ≡ storm_text number jobs → IfOk r (λ d. IsDue bytes d.status d.text.items)

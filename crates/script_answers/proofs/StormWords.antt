@@ -6,7 +6,7 @@ use Rattle.annex_base.proofs.DecimalLemmas.{number_is, number_some}
 use Rattle.annex_base.proofs.Lists.{cons_first, cons_rest}
 use Rattle.script_answers.specs.declared.storms.Storm.{Storm}
 use Rattle.script_answers.specs.declared.status.Status.{Status}
-use Rattle.script_answers.specs.declared.status.Status.TheVariants.{Done, Usage, Script, ReadFault, WriteFault, NoMemory, Limit}
+use Rattle.script_answers.specs.declared.status.Status.TheVariants.{Done, Usage, Script, ReadFault, WriteFault, NoMemory, Limit, NotARun, Input}
 use Rattle.script_answers.specs.Storms.{AnswersStorm, AreNumbers, IsStormCommand, most_jobs}
 use Rattle.script_answers.specs.Top.{AnswersOther, IsRunCommand}
 
@@ -81,6 +81,8 @@ usage_only taken taken' Script answers unless = absurd answers
 usage_only taken taken' ReadFault answers unless = absurd answers
 usage_only taken taken' NoMemory answers unless = absurd answers
 usage_only taken taken' Limit answers unless = absurd answers
+usage_only taken taken' NotARun answers unless = absurd answers
+usage_only taken taken' Input answers unless = absurd answers
 
 -- `run` alone asks for none
 pub run_is_no_storm : (words : List (List ℕ)) (number jobs : ℕ) → IsRunCommand words → IsStormCommand words number jobs → ⊥

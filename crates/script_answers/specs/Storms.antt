@@ -12,7 +12,7 @@ use Rattle.kept_copies.specs.Scripts.{kept_of}
 use Rattle.kept_copies.specs.Storms.{storm_commands, storm_keys}
 use Rattle.storm_line.specs.Line.{storm_line}
 use Rattle.script_answers.specs.declared.status.Status.{Status}
-use Rattle.script_answers.specs.declared.status.Status.TheVariants.{Done, Usage, Script, ReadFault, WriteFault, NoMemory, Limit}
+use Rattle.script_answers.specs.declared.status.Status.TheVariants.{Done, Usage, Script, ReadFault, WriteFault, NoMemory, Limit, NotARun, Input}
 use Rattle.script_answers.specs.Whole.{TakesFront}
 use Rattle.script_answers.specs.Top.{AnswersOther, AnswersRun, HasGoodRun, IsComplaint, IsLong, IsMissing, IsPast, IsRunCommand, entries_name, limit_text}
 
@@ -86,6 +86,8 @@ AnswersStorm number jobs taken taken' WriteFault = WritesStormFront number jobs 
 AnswersStorm number jobs taken taken' NoMemory = taken' ≡ taken
 AnswersStorm number jobs taken taken' ReadFault = ⊥
 AnswersStorm number jobs taken taken' Usage = ⊥
+AnswersStorm number jobs taken taken' NotARun = ⊥
+AnswersStorm number jobs taken taken' Input = ⊥
 
 -- what the sink has taken with each status
 pub record Answers (words : List (List ℕ)) (left left' taken taken' : Option (List ℕ)) (status : Status) : Type 0 where

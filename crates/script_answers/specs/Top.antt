@@ -18,12 +18,16 @@ use Rattle.driver_script.specs.Inputs.{driver_input_of}
 use Rattle.driver_script.specs.Script.{IsScript, IsUnbuilt}
 use Rattle.report_text.specs.Report.{report}
 use Rattle.script_answers.specs.declared.status.Status.{Status}
-use Rattle.script_answers.specs.declared.status.Status.TheVariants.{Done, Usage, Script, ReadFault, WriteFault, NoMemory, Limit}
+use Rattle.script_answers.specs.declared.status.Status.TheVariants.{Done, Usage, Script, ReadFault, WriteFault, NoMemory, Limit, NotARun, Input}
 use Rattle.script_answers.specs.Whole.{IsRead, TakesFront, script_limit}
 
 -- the words are `run` alone
 abbrev pub IsRunCommand : List (List ℕ) → Type 0
 IsRunCommand words = words ≡ codes "run" ∷ []
+
+-- the words are `audit` alone
+abbrev pub IsAuditCommand : List (List ℕ) → Type 0
+IsAuditCommand words = words ≡ codes "audit" ∷ []
 
 abbrev pub usage_text : List ℕ
 usage_text = codes "usage: annex run | threads | storm NUMBER JOBS\n"
@@ -117,7 +121,7 @@ IsDue bytes _ text = ⊥
 -- the text that is due for what was read; where it is the report of a run, whole or not, that run is good
 pub record IsDueRead (old new : Option (List ℕ)) (status : Status) (text : List ℕ) : Type 0 where
   pub bytes : List ℕ
-  pub read : IsRead old new bytes
+  pub read : IsRead script_limit old new bytes
   pub due : IsDue bytes status text
   pub good : status ≡ Done → HasGoodRun bytes
   pub good_start : IsCutReport bytes text → HasGoodRun bytes
@@ -144,6 +148,8 @@ AnswersRun left left' taken taken' WriteFault = WritesFront left left' taken tak
 AnswersRun left left' taken taken' ReadFault = taken' ≡ taken
 AnswersRun left left' taken taken' NoMemory = taken' ≡ taken
 AnswersRun left left' taken taken' Usage = ⊥
+AnswersRun left left' taken taken' NotARun = ⊥
+AnswersRun left left' taken taken' Input = ⊥
 
 -- what the sink has taken of the usage line
 abbrev pub AnswersOther : Option (List ℕ) → Option (List ℕ) → Status → Type 0

@@ -13,10 +13,10 @@ abbrev pub IsAtEnd : Option (List ℕ) → Type 0
 IsAtEnd left = ForSome left (λ bytes. bytes ≡ [])
 
 -- These bytes were read, up to the end, or past the limit by at most one piece of 4,096 bytes.
-pub record IsRead (old new : Option (List ℕ)) (bytes : List ℕ) : Type 0 where
+pub record IsRead (limit : ℕ) (old new : Option (List ℕ)) (bytes : List ℕ) : Type 0 where
   pub front : old ≡ prepend_known bytes new
-  pub whole : length bytes ≤ script_limit → IsAtEnd new
-  pub few : length bytes ≤ script_limit + 4096
+  pub whole : length bytes ≤ limit → IsAtEnd new
+  pub few : length bytes ≤ limit + 4096
 
 -- the sink took a front of the text
 abbrev pub TakesFront : Option (List ℕ) → Option (List ℕ) → List ℕ → Type 0

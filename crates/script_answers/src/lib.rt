@@ -18,4 +18,4 @@ pub use ran::{ENTRY_LIMIT, Ran};
 pub use status::Status;
 pub use storms::{Storm, storm_due, storm_of};
 pub use whole::{ReadStop, SCRIPT_LIMIT, read_whole, write_whole};
-pub use words::is_run;
+pub use words::{is_audit, is_run};

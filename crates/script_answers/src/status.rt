@@ -17,6 +17,10 @@ pub enum Status {
     NoMemory,
     /// A counted quantity passes its limit.
     Limit,
+    /// An entry of a journal isn't permitted.
+    NotARun,
+    /// A text isn't a journal.
+    Input,
 }
 
 impl Status {
@@ -35,6 +39,8 @@ impl Status {
             Status::WriteFault => 4,
             Status::NoMemory => 5,
             Status::Limit => 6,
+            Status::NotARun => 7,
+            Status::Input => 8,
         }
     }
 }

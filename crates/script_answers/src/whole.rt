@@ -1,9 +1,9 @@
 //! A source that is read whole, and a text that is written whole.
 
-ghost use Rattle.std.specs.Prelude.{◌≡◌, ◌≤◌, ◌<◌, ℕ, ◌+◌, length, IfOk, OnOk, OnErr};
+ghost use Rattle.std.specs.Prelude.{◌≡◌, ◌≤◌, ◌<◌, ◌^◌, ℕ, ◌+◌, length, IfOk, OnOk, OnErr};
 ghost use Rattle.std.specs.Io.KnownBytes.{append_known, prepend_known};
 ghost use Rattle.annex_base.specs.Causes.{Rose};
-ghost use Rattle.script_answers.specs.Whole.{IsRead, IsAtEnd, TakesFront, script_limit};
+ghost use Rattle.script_answers.specs.Whole.{IsRead, IsAtEnd, TakesFront};
 
 use annex_base::{Failed, NoMemory, Sink, Source};
 use std::alloc::Global;
@@ -20,16 +20,21 @@ pub enum ReadStop {
     NoMemory,
 }
 
-/// The bytes of a source up to its end, or, where there are more than `SCRIPT_LIMIT`, the first bytes past that number.
-pub fn read_whole<S: Source>(alloc: Global, source: &mut S) -> Result<Vec<u8>, ReadStop>
-    ensures read { IfOk result (λ text. IsRead (S.left source.old) (S.left source.new) text.items) }
+/// The bytes of a source up to its end, or, where there are more than this limit, the first bytes past that number.
+pub fn read_whole<S: Source>(
+    alloc: Global,
+    source: &mut S,
+    limit: usize,
+) -> Result<Vec<u8>, ReadStop>
+    requires { limit < 2 ^ 62 }
+    ensures read { IfOk result (λ text. IsRead limit (S.left source.old) (S.left source.new) text.items) }
     ensures cause { result ≡ Err ReadStop.Failed → Rose (S.faults source.old) (S.faults source.new) }
     ensures failed { S.faults source.old < S.faults source.new → result ≡ Err ReadStop.Failed }
     ensures later { S.faults source.old ≤ S.faults source.new }
 {
     let mut text = Vec::new(alloc);
     let mut room = [0; ROOM];
-    while text.len() <= SCRIPT_LIMIT {
+    while text.len() <= limit {
         let Ok(count) = source.read(&mut room) else {
             return Err(ReadStop::Failed);
         };

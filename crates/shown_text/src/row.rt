@@ -29,7 +29,8 @@ pub fn put_row(
     Ok(())
 }
 
-fn put_found(out: &mut Vec<u8>, row: &RowView) -> Result<(), AllocError>
+/// Adds what stands behind the key in its row: the content, its bar and the holds that block.
+pub fn put_found(out: &mut Vec<u8>, row: &RowView) -> Result<(), AllocError>
     ensures { OnOk result (out.new.items ≡ out.old.items ++ found_text row.now) }
 {
     if row.present {

@@ -1,7 +1,7 @@
 -- The lemmas of this crate.
 mod SameStep
 mod SameReads
-mod Alone
+pub mod Alone
 mod Peers
 mod Carrying
 mod After

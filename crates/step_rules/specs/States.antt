@@ -20,7 +20,7 @@ use Rattle.step_judging.specs.Verdicts.{verdict}
 use Rattle.state_checks.specs.Moments.{moment_of}
 use Rattle.state_flights.specs.Flights.{flight_on}
 use Rattle.step_state.specs.declared.state.RepoState.{RepoState}
-use Rattle.step_rules.specs.Members.{AwaitsBy, IsBounded, IsMemberOf}
+use Rattle.step_rules.specs.Members.{AwaitsBy, IsBounded, IsMemberOf, paths_at}
 use Rattle.step_rules.specs.Trees.{IsTreeBefore}
 use Rattle.step_rules.specs.declared.member.Member.{Member}
 use Rattle.step_rules.specs.declared.run_state.RunState.{RunState}
@@ -57,6 +57,22 @@ pub record IsCarried (x : RunState) : Type 0 where
   pub run : Run
   pub after : IsAfter x run
 
+-- the state of the repository of this number, if there is one
+abbrev pub state_at : List Member → Option ℕ → Option RepoState
+state_at members None = None
+state_at members (Some r) = option_map (λ m. m.state) (slice_get members r)
+
+abbrev pub repo_at : RunState → ℕ → Option RepoState
+repo_at x r = state_at x.members.items (Some r)
+
+abbrev pub paths_in : Option Member → ℕ → List (List ℕ)
+paths_in None job = []
+paths_in (Some m) job = paths_at m.paths job
+
+-- the paths that are kept for a job of a repository
+abbrev pub job_paths_at : RunState → ℕ → ℕ → List (List ℕ)
+job_paths_at x r job = paths_in (slice_get x.members.items r) job
+
 -- what is wanted tells the rule that the entry breaks after the run, and the row that it found
 abbrev pub TellsOf : Run → Entry → Wanted → Type 0
 TellsOf run e (Broken rule found) = verdict (set_up run) (reverse run.entries) e ≡ Some (record { rule = rule; found = found })
@@ -84,11 +100,6 @@ HearsAt st flights r kind (Some f) hears = HearsOf st flights r kind f hears
 
 abbrev pub HearsBy : State → (Way → Flight) → ℕ → Entry → Option Hears → Type 0
 HearsBy st flights r e hears = HearsAt st flights r e.kind e.taken hears
-
--- the state of the repository of this number, if there is one
-abbrev pub state_at : List Member → Option ℕ → Option RepoState
-state_at members None = None
-state_at members (Some r) = option_map (λ m. m.state) (slice_get members r)
 
 -- the one of this number changed so, and the others stay
 pub record ChangesMember (r : ℕ) (P : Member → Member → Type 0) (was now : List Member) : Type 0 where

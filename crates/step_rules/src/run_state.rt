@@ -18,7 +18,7 @@ ghost use Rattle.step_judging.specs.Verdicts.{row_found};
 ghost use Rattle.step_state.specs.Peers.{HasPeersIn};
 ghost use Rattle.step_rules.specs.Members.{BeginsWith, IsBounded, IsMemberOf, words_after};
 ghost use Rattle.step_rules.specs.Runs.{start_of, with_entry};
-ghost use Rattle.step_rules.specs.States.{ChangesMember, HasBegun, HearsBy, HearsOf, IsAfter, IsAllowed, IsCarried, TellsOf, state_at, taken_by};
+ghost use Rattle.step_rules.specs.States.{ChangesMember, HasBegun, HearsBy, HearsOf, IsAfter, IsAllowed, IsCarried, TellsOf, job_paths_at, repo_at, state_at, taken_by};
 ghost use Rattle.step_rules.specs.Trees.{AreInOrder, IsTreeBefore};
 ghost use Rattle.step_rules.specs.declared.member.Member.{Member};
 
@@ -156,22 +156,32 @@ impl<'a> RunState<'a> {
         row_found(self.alloc, self.state(entry.repo), entry)
     }
 
-    /// The state of the repository of this number, if it is one of the run.
     fn state(&self, repo: Option<u32>) -> Option<&RepoState>
         ensures { option_copied result ≡ state_at self.now.members.items repo }
     {
         match repo {
-            Some(repo) => self.state_at(repo),
+            Some(repo) => self.repo(repo),
             None => None,
         }
     }
 
-    fn state_at(&self, repo: u32) -> Option<&RepoState>
-        ensures { option_copied result ≡ state_at self.now.members.items (Some repo) }
+    /// The state of the repository of this number, if it is one of the run.
+    pub fn repo(&self, repo: u32) -> Option<&RepoState>
+        ensures { option_copied result ≡ repo_at self.now repo }
     {
         match self.members.get(repo as usize) {
             Some(member) => Some(&member.state),
             None => None,
+        }
+    }
+
+    /// The paths that the key of a running job of a repository had as the job began.
+    pub fn paths(&self, repo: u32, job: u32) -> &[Text]
+        ensures { result.now ≡ job_paths_at self.now repo job }
+    {
+        match self.members.get(repo as usize) {
+            Some(member) => member.paths.of(Some(job)),
+            None => &[],
         }
     }
 
