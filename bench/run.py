@@ -6,6 +6,7 @@ how much more work the script has, and how much longer it took. Nothing here is 
 """
 
 import itertools
+import os
 import pathlib
 import statistics
 import subprocess
@@ -138,6 +139,13 @@ def syncs(files):
     return declare(3) + ["add r0 f%d text:%d" % (f, f) for f in range(files)] + ["sync r0"] * 2
 
 
+def idle_syncs(files):
+    """So many files that fifteen of sixteen repositories don't want, each by an expression of some words: syncs find nothing to do."""
+    unwanted = "exclude=* and (%s)" % " or ".join("include=*.%s" % letter for letter in "abcdefgh")
+    wants = ["wanted r0 %s %s" % (name(r), unwanted) for r in range(1, 16)]
+    return declare(16) + wants + ["add r0 f%d text:%d" % (f, f) for f in range(files)] + ["sync r0"] * 3
+
+
 def placed(count):
     """Two repositories, of which the first has so many contents."""
     return declare(2) + ["have %s %s text:a" % (name(0), short_key(k)) for k in range(count)]
@@ -160,20 +168,22 @@ def some_writes(count):
     return ["log %s trust.log %s 1 timestamp=1650000000s" % (name(0), identifier(n)) for n in range(count)]
 
 
-def median_time(command, text=b"", status=0):
+def median_time(command, text=b"", status=0, processors=None):
+    """Of the command, on the first so many processors alone, or on all."""
+    limit = processors and (lambda: os.sched_setaffinity(0, sorted(os.sched_getaffinity(0))[:processors]))
     times = []
     for _ in range(RUNS):
         begin = time.perf_counter()
-        ended = subprocess.run(command, input=text, stdout=subprocess.PIPE)
+        ended = subprocess.run(command, input=text, stdout=subprocess.PIPE, preexec_fn=limit)
         times.append(time.perf_counter() - begin)
         assert ended.returncode == status, "status %d, not %d" % (ended.returncode, status)
     return statistics.median(times)
 
 
-def run_time(lines):
+def run_time(lines, processors=None):
     script = ("\n".join(lines) + "\n").encode()
     assert len(script) <= 1_048_576, "a script has at most 1,048,576 bytes, this one %d" % len(script)
-    return median_time([str(PROGRAM), "run"], script)
+    return median_time([str(PROGRAM), "run"], script, processors=processors)
 
 
 def read_time(script):
@@ -298,6 +308,11 @@ def main():
     table("MiB of one content, copied and got on", [(n, n, transfers(1, n << 20)) for n in (1, 2, 4, 8, 16)])
     doublings("files of 3 bytes, each copied and got on", doubled(64, 4_096), lambda n: transfers(n, 3))
     doublings("files, brought by a sync to two more repositories, and a second sync", doubled(250, 4_000), syncs)
+    table(
+        "processors, for three syncs of 4,000 files at 16 repositories, whose plans threads make",
+        [(n, 1, n) for n in (1, 2, 4)],
+        lambda processors: run_time(idle_syncs(4_000), processors),
+    )
     for beside, title, numbers in (
         (placed, "keys at a node", (10, 100, 1000, 10000, 30000)),
         (located, "entries of a node, each a file of one line", (10, 100, 1000, 10000)),
