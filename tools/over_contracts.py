@@ -10,9 +10,10 @@ false, and imports and dependencies without a use go, so that a check takes two 
 `--only MODULE` and `--allow-holes`. OUT must lie outside the repository. What is checked so is no proof: `rt ci` proves. It
 doesn't see the layout, wrong bodies that must be refused, nor contracts that no call can meet.
 """
-import os, re, shutil, sys
+import os, re, shutil, subprocess, sys
 
-KIT = "/opt/rattle"
+# the kit's folder, in which its first page stands
+KIT = os.path.dirname(subprocess.run(["rt", "doc"], check=True, capture_output=True, text=True).stdout.split("\n")[0])
 
 
 def read_crates(repo):
